@@ -1,4 +1,4 @@
--- The reply to a step, and the account behind it.
+-- The reply to a step, and the account after it.
 use Rattle.std.proofs.Common.{◌≡◌, ℕ, zero, suc, ◌<◌, ◌^◌, Bool, true, false, List, [], ◌∷◌, ◌++◌, length, refl, sym, ap, ◌∙◌, subst, arith}
 use Rattle.std.specs.Prelude.{Option, Some, None, find, ◌||◌, ◌==◌, replicate}
 use Rattle.std.specs.List.{list_any}

@@ -39,7 +39,7 @@ mask-end flags [] (suc p) h = refl
 mask-end flags (x ∷ b) zero h = absurd (omega arith)
 mask-end flags (x ∷ b) (suc p) h = mask-end flags b p (omega arith)
 
--- p is the parameter behind the one that the loop looks at
+-- p is the parameter after the one that the loop looks at
 pub mask-before : (flags : List Bool) (b : List (Option ℕ)) (p bit dead : ℕ) → bit ≡ cond (is_flagged_at flags (object_at b (p - 1))) 1 0
     → dead ≡ mask_where (is_flagged flags) (drop p b) → 0 < p → p ≤ length b → mask_where (is_flagged flags) (drop (p - 1) b) ≡ 2 * dead + bit
 mask-before flags b p bit dead is was low within =

@@ -6,7 +6,7 @@ use Rattle.jm_model.specs.Words.{Text}
 use Rattle.jm_audit.specs.Guides.{EndsLine, IsOneLine, said, Says, stop, go, Picks, Guided, stopped, follows, leaves, AreDetermined}
 use Rattle.jm_audit.specs.Fronts.{feeds, agreeing}
 
--- a prefix of two texts one behind the other is one of the first, or goes on in the second
+-- a prefix of two texts one after the other is one of the first, or goes on in the second
 cut : (p a v : Text) → IsPrefix p (a ++ v) → IsPrefix p a ⊎ ((q : Text) × (p ≡ a ++ q) × IsPrefix q v)
 cut p [] v h = inr (p, refl, h)
 cut [] (x ∷ a) v h = inl (x ∷ a, refl)
@@ -19,7 +19,7 @@ cut (c ∷ p) (x ∷ a) v h =
       | inr beyond ↦ inr (beyond.0, cc (hd, beyond.1), beyond.2)
     ]
 
--- whole lines behind a text are whole lines
+-- whole lines after a text are whole lines
 lines_behind : (a q : Text) → EndsLine (a ++ q) → EndsLine q
 lines_behind [] q h = h
 lines_behind (x ∷ []) [] h = tt
@@ -53,7 +53,7 @@ through p q t h g = (h.0 ++ g.0, sym (append_assoc p h.0 g.0) ∙ ap (λ l. l ++
 in_front : (a p u : Text) → IsPrefix p u → IsPrefix (a ++ p) (a ++ u)
 in_front a p u h = (h.0, append_assoc a p h.0 ∙ ap (λ l. a ++ l) h.1)
 
--- a prefix behind the same text
+-- a prefix after the same text
 behind : (a q r : Text) → IsPrefix (a ++ q) (a ++ r) → IsPrefix q r
 behind [] q r h = h
 behind (x ∷ a) q r h =

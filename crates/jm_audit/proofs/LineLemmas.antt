@@ -9,14 +9,14 @@ use Rattle.jm_print.proofs.Cutting.{Lacks}
 use Rattle.jm_audit.specs.Guides.{EndsLine, IsOneLine}
 use Rattle.jm_audit.specs.Fronts.{feeds, agreeing, AreWholeLines}
 
--- what stands behind the same text
+-- what stands after the same text
 pub same_behind : {X : Type 0} (a q r : List X) → a ++ q ≡ a ++ r → q ≡ r
 same_behind [] q r e = e
 same_behind (x ∷ a) q r e =
     let tail : a ++ q ≡ a ++ r = cc (e) in
     same_behind a q r tail
 
--- texts whose first lines agree have the same first line, and the same behind it
+-- texts whose first lines agree have the same first line, and the same after it
 pub first_lines : (a b s t : Text) → IsOneLine a → IsOneLine b → (a ++ 10 ∷ []) ++ s ≡ (b ++ 10 ∷ []) ++ t → (a ≡ b) × (s ≡ t)
 first_lines [] [] s t h k e = (refl, cc (e))
 first_lines [] (y ∷ b) s t h k e = let head : 10 ≡ y = cc (e) in absurd (k.0 (sym head))
@@ -58,7 +58,7 @@ feed-left a b h = record { front = h.front; back = h.back ++ b; is = ap (λ t. t
 pub feed-right : (a b : Text) → HasFeed b → HasFeed (a ++ b)
 feed-right a b h = record { front = a ++ h.front; back = h.back; is = ap (λ t. a ++ t) h.is ∙ sym (append_assoc a h.front (10 ∷ h.back)) }
 
--- its first line, and the lines behind it
+-- its first line, and the lines after it
 pub record IsCut (text : Text) : Type 0 where
   pub line : Text
   pub more : Text

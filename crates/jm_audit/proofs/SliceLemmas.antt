@@ -227,7 +227,7 @@ instances_at_start m = record {
     bound i among = ap (λ (x : Sliced). x.binding) (only i among)
 
 -- ---- in place
--- the element behind those that were changed is changed too
+-- the element after those that were changed is changed too
 pub advanced_more : {X : Type 0} (f : X → X) (xs now : List X) (i : ℕ) (x y : X) → i < length xs → now ≡ map f (take i xs) ++ drop i xs → x ≡ get_or now i x → y ≡ f x
     → slice_set now i y ≡ map f (take (i + 1) xs) ++ drop (i + 1) xs
 advanced_more {X} f xs now i x y there is at new =

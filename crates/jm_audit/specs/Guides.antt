@@ -14,7 +14,7 @@ abbrev pub IsOneLine : Text → Type 0
 IsOneLine [] = Unit {0}
 IsOneLine (b ∷ bs) = (b ≢ 10) × IsOneLine bs
 
--- From a state a caller can go on: with a line, more lines behind it, and the next state. Or the state ends, with a
+-- From a state a caller can go on: with a line, more lines after it, and the next state. Or the state ends, with a
 -- text.
 module _ {S : Type 0} (Goes : S → ℕ → Text → Text → S → Type 0) (Ends : S → Text → Type 0) where
   abbrev pub said : Text → Text → Text

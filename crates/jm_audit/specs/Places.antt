@@ -13,7 +13,7 @@ use Rattle.jm_script.specs.declared.script.ScriptLine.{ScriptLine}
 use Rattle.jm_audit.specs.Allowed.{steps_on}
 use Rattle.jm_audit.specs.Guides.{IsOneLine, Says, Guided}
 
--- where a text stands: in front of the history of the specification of this number, or within it, behind these entries
+-- where a text stands: in front of the history of the specification of this number, or within it, after these entries
 pub data Place : Type 0 where
   before : ℕ → Place
   within : ℕ → List Entry → Place
@@ -43,7 +43,7 @@ AreAllDone lists h = (k : ℕ) (own : List (ℕ × Step)) → slice_get lists k 
 module _ {X : Type 0} (mean : X → Meaning) (words : X → Lexicon) (scripts : List (List ScriptLine))
     (xs : List X) where
   -- From a place a text goes on with a block to the next place. The head of a history is said by caller 0, an entry by
-  -- its caller, and the last line by none of the callers but by the number behind theirs.
+  -- its caller, and the last line by none of the callers but by the number after theirs.
   abbrev pub Writes : Place → ℕ → Text → Place → Type 0
   Writes (before n) k block next =
       (x : X) × (slice_get xs n ≡ Some x) × (k ≡ 0) × (block ≡ head_text (words x)) × (next ≡ within n [])
@@ -54,7 +54,7 @@ module _ {X : Type 0} (mean : X → Meaning) (words : X → Lexicon) (scripts : 
       ⊎ (AreAllDone (steps_on scripts n) h × (k ≡ length scripts) × (block ≡ end_text (length h))
       × (next ≡ before (n + 1))))
 
-  -- the same by the first line of the block and the lines behind it
+  -- the same by the first line of the block and the lines after it
   abbrev pub Goes : Place → ℕ → Text → Text → Place → Type 0
   Goes s k line more next = IsOneLine line × Writes s k (line ++ 10 ∷ [] ++ more) next
 
@@ -73,7 +73,7 @@ module _ {X : Type 0} (mean : X → Meaning) (words : X → Lexicon) (scripts : 
   abbrev pub IsWritten : Text → Text → Option Text → Place → Type 0
   IsWritten text written rest s = (w : Text) → GoesOn s rest w → Guided Goes Ends (before 0) text (written ++ w)
 
--- what is left of the text behind a block, if the text goes on with it
+-- what is left of the text after a block, if the text goes on with it
 abbrev pub IsLeftBehind : Text → Option Text → Option Text → Type 0
 IsLeftBehind block None None = Unit {0}
 IsLeftBehind block None (Some r) = ⊥

@@ -5,7 +5,7 @@ use Rattle.jm_audit.specs.declared.verdict.Verdict.{Verdict}
 use Rattle.jm_audit.specs.declared.verdict.Verdict.TheVariants.{Yes, No}
 use Rattle.jm_audit.specs.Fronts.{IsReached}
 
--- Yes exactly where the text is allowed; else the line behind the greatest number of whole lines of the text with which
+-- Yes exactly where the text is allowed; else the line after the greatest number of whole lines of the text with which
 -- some allowed text begins
 abbrev pub IsVerdict : (Text → Type 0) → Text → Verdict → Type 0
 IsVerdict Allowed text Yes = Allowed text

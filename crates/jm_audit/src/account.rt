@@ -21,7 +21,7 @@ pub(crate) struct Account {
 }
 
 impl Account {
-    /// The account of the history without entries, over so many objects.
+    /// The account of the history without entries, over the given number of objects.
     pub(crate) fn new<M: Monitor>(
         alloc: Global,
         rules: &M,

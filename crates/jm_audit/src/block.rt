@@ -7,7 +7,7 @@ use itoa::Buffer;
 use jm_model::NoMemory;
 use std::alloc::Global;
 
-/// Writes a block. It answers what is left of the text behind it, if the text goes on with it.
+/// Writes a block. It answers what is left of the text after it, if the text goes on with it.
 pub(crate) fn write_block<'t>(
     rest: Option<&'t [u8]>,
     written: &mut Vec<u8>,
@@ -31,7 +31,7 @@ pub(crate) fn head_line(alloc: Global, name: &str) -> Result<Vec<u8>, NoMemory>
     Ok(line)
 }
 
-/// The last line of a history with so many entries.
+/// The last line of a history with the given number of entries.
 pub(crate) fn end_line(alloc: Global, entries: usize) -> Result<Vec<u8>, NoMemory>
     ensures { IfOk result (λ line. line.items ≡ end_text entries) }
 {

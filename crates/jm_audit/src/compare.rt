@@ -6,7 +6,7 @@ ghost use Rattle.jm_audit.specs.Places.{IsLeftBehind};
 /// How many whole lines two texts begin with alike.
 pub(crate) fn agreeing_lines(one: &[u8], other: &[u8]) -> u64
     ensures value { result ≡ agreeing one.now other.now }
-    ensures few { result ≤ length one.now }
+    ensures bounded { result ≤ length one.now }
 {
     let mut lines = 0;
     for (i, a) in one.iter().enumerate() {
@@ -30,7 +30,7 @@ pub(crate) fn is_at(text: &[u8], place: usize, byte: u8) -> bool
     }
 }
 
-/// What is left of a text behind a block, if it goes on with the block.
+/// What is left of a text after a block, if it goes on with the block.
 pub(crate) fn left_behind<'t>(rest: Option<&'t [u8]>, block: &[u8]) -> Option<&'t [u8]>
     ensures { IsLeftBehind block.now (option_map (λ r. r.now) rest.entry) (option_map (λ r. r.now) result) }
 {

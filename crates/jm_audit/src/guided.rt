@@ -17,7 +17,7 @@ use jm_script::CompactScript;
 use std::alloc::Global;
 
 /// Whether a run of these scripts over the specifications may print the text, or else the first of its lines that no
-/// run prints behind those before it. There are at most 16 sheets and 16 scripts, and the scripts fit the sheets. The
+/// run prints after those before it. There are at most 16 sheets and 16 scripts, and the scripts fit the sheets. The
 /// only error is out of memory.
 pub fn audit<M: Monitor>(
     alloc: Global,
@@ -52,7 +52,7 @@ pub fn audit<M: Monitor>(
     Ok(Verdict::No { line: lines + 1 })
 }
 
-/// Writes the history of the sheet of this number. It answers what is left of the text behind it, if the text goes on
+/// Writes the history of the sheet of this number. It answers what is left of the text after it, if the text goes on
 /// with it.
 fn write_history<'t, M: Monitor>(
     alloc: Global,
@@ -63,7 +63,7 @@ fn write_history<'t, M: Monitor>(
     rest: Option<&'t [u8]>,
     written: &mut Vec<u8>,
 ) -> Result<Option<&'t [u8]>, NoMemory>
-    requires there { number < length sheets.now }
+    requires in_range { number < length sheets.now }
     requires scripts { length scripts.now ≤ 16 }
     requires fit { FitSheets (λ s. M.meaning (M.definition s.rules.now)) (lexicon objects.now) scripts.now sheets.now }
     ensures { IfOk result (λ left. (text : List ℕ)
@@ -91,7 +91,7 @@ fn write_entries<'t, M: Monitor>(
     rest: Option<&'t [u8]>,
     written: &mut Vec<u8>,
 ) -> Result<(usize, Option<&'t [u8]>), NoMemory>
-    requires there { number < length sheets.now }
+    requires in_range { number < length sheets.now }
     requires scripts { length scripts.now ≤ 16 }
     requires fit { FitSheets (λ s. M.meaning (M.definition s.rules.now)) (lexicon objects.now) scripts.now sheets.now }
     ensures { IfOk result (λ told. (h : List HistoryEntry) × (told.0 ≡ length h)

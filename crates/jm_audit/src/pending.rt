@@ -53,7 +53,7 @@ fn add_steps(pending: &mut Vec<Pending>, caller: u32, steps: &[(u32, Step)]) -> 
 /// begins with one that has a step left, and else the first of all.
 pub(crate) fn choose(pending: &[Pending], rest: Option<&[u8]>) -> usize
     requires { 0 < length pending.now }
-    ensures there { result < length pending.now }
+    ensures in_range { result < length pending.now }
     ensures choice { IsChoice pending.now (option_map (λ r. r.now) rest.entry) result }
 {
     match rest {
@@ -65,7 +65,7 @@ pub(crate) fn choose(pending: &[Pending], rest: Option<&[u8]>) -> usize
 /// Chooses so among several where this is the rest of the text.
 fn choose_marked(pending: &[Pending], rest: &[u8]) -> usize
     requires { 0 < length pending.now }
-    ensures there { result < length pending.now }
+    ensures in_range { result < length pending.now }
     ensures choice { IsChoice pending.now (Some rest.now) result }
 {
     for (place, next) in pending.iter().enumerate() {

@@ -116,7 +116,7 @@ fn next_entry<M: Monitor>(
     requires room { HasRoom (length account.old.dead.items) next.step }
     requires letters { HaveLetters (M.meaning (M.definition sheet.now.rules.now)) account.old.instances.items }
     ensures room { OnOk result (length account.new.dead.items ≡ length account.old.dead.items) }
-    ensures same { IfOk result (λ x. (x.caller ≡ next.caller) × (x.line ≡ next.line) × (x.step ≡ next.step)) }
+    ensures source { IfOk result (λ x. (x.caller ≡ next.caller) × (x.line ≡ next.line) × (x.step ≡ next.step)) }
     ensures replied { IfOk result (λ x. (h : List HistoryEntry)
         → IsAccountOf (M.meaning (M.definition sheet.now.rules.now)) h account.old
         → IsReplied (M.meaning (M.definition sheet.now.rules.now)) h x.step x.outcome account.new) }

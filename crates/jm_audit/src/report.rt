@@ -14,7 +14,7 @@ use crate::instance::Instance;
 use jm_model::{Binding, Firing, Firings, Letter, Monitor, NoMemory};
 use std::alloc::Global;
 
-/// The state of the monitor behind a word.
+/// The state of the monitor after a word.
 fn run_over<M: Monitor>(rules: &M, word: &[u8]) -> Result<M::State, NoMemory>
     requires { AllByRecursion (λ e. e < (M.meaning (M.definition rules.now)).letters) word.now }
     ensures { IfOk result (λ state. M.StandsFor rules.now state word.now) }
@@ -109,7 +109,7 @@ fn push_hits(list: &mut Vec<Firing>, instance: &Binding, hits: u16) -> Result<()
 /// Puts the firings in their order, each once.
 fn put_in_order(list: &mut Vec<Firing>)
     ensures increasing { IsStrictlySortedBy firing_cmp list.new.items }
-    ensures same { AreSame list.old.items list.new.items }
+    ensures members { AreSame list.old.items list.new.items }
 {
     list.sort_unstable_by(|f, g| f.instance.cmp(&g.instance).then(f.handler.cmp(&g.handler)));
     list.dedup_by(|f, g| {
@@ -149,7 +149,7 @@ pub(crate) fn kept<M: Monitor>(
 /// Puts the bindings in their order, each once.
 fn put_bindings_in_order(list: &mut Vec<Binding>)
     ensures increasing { IsStrictlySortedBy binding_cmp list.new.items }
-    ensures same { (t : BindingValue) → (Contains list.old.items t ↔ Contains list.new.items t) }
+    ensures members { (t : BindingValue) → (Contains list.old.items t ↔ Contains list.new.items t) }
 {
     list.sort_unstable_by(|b, t| b.cmp(t));
     list.dedup_by(|b, t| b.cmp(t).is_eq());

@@ -44,7 +44,7 @@ filtered_passes p (y ∷ xs) x h =
       | inr later ↦ filtered_passes p xs x later
     ]
 
--- ---- one entry more, behind what still counts
+-- ---- one entry more, after what still counts
 pushed_apart : (xs : List Listed) (x : Listed) → AllPairs (λ a b. a ≢ b) xs → (Contains xs x → ⊥) → AllPairs (λ a b. a ≢ b) (xs ++ x ∷ [])
 pushed_apart xs x apart fresh =
     all_pairs_push (λ a b. a ≢ b) xs x apart (λ k d low same. fresh (subst (Contains xs) same (Contains-get_or xs k d low)))

@@ -189,11 +189,10 @@ impl Awake {
         }
     }
 
-    /// Makes cards for so many slots and one more, if it may, unless out of memory, and answers whether they are
-    /// there.
+    /// Makes cards up to this slot, if it may, unless out of memory, and answers whether they are there.
     pub fn cover(&mut self, slot: usize, grows: bool) -> bool
         ensures covered { IsCovered self.old self.new }
-        ensures there { result ≡ true → slot < length self.new.cards }
+        ensures in_range { result ≡ true → slot < length self.new.cards }
     {
         if slot < self.cards.len() {
             return true;
@@ -278,7 +277,7 @@ impl Awake {
             → IsKept self.old place → o slot ≡ Some x → is_below (list_at self.old place).binding x.instance ≡ true
             → AreSoundBut (Some place) o self.old → AreSoundBut (Some place) o self.new }
         ensures lists { self.new.lists ≡ self.old.lists }
-        ensures there { (x : Entry) → is_there self.new.cards x ≡ is_there self.old.cards x }
+        ensures unchanged { (x : Entry) → is_there self.new.cards x ≡ is_there self.old.cards x }
         ensures on { (k e : ℕ) → (k ≡ slot → e ≡ letter.0 → ⊥) → IsOn (card_at self.old k) e
             → IsOn (card_at self.new k) e }
     {
@@ -329,7 +328,7 @@ impl Awake {
             → AreSound o self.new }
         ensures on { (k e : ℕ) (place : ℕ) → IsKept self.new place → IsOn (card_at self.old k) e
             → IsOn (card_at self.new k) e }
-        ensures here { (k place : ℕ) → IsKept self.new place → Contains slots.now k
+        ensures present { (k place : ℕ) → IsKept self.new place → Contains slots.now k
             → IsOn (card_at self.new k) letter.0 }
         ensures lists { (place : ℕ) → IsKept self.new place
             → (list_at self.new place ≡ list_at self.old place)
@@ -461,9 +460,9 @@ impl Awake {
 
 /// Makes cards up to that of a slot, unless out of memory, and answers whether they are there.
 fn add_cards(cards: &mut Vec<Card>, slot: usize) -> bool
-    ensures same { (k : ℕ) → slice_index_or cards.new.items k fresh ≡ slice_index_or cards.old.items k fresh }
+    ensures unchanged { (k : ℕ) → slice_index_or cards.new.items k fresh ≡ slice_index_or cards.old.items k fresh }
     ensures size { length cards.old.items ≤ length cards.new.items }
-    ensures there { result ≡ true → slot < length cards.new.items }
+    ensures in_range { result ≡ true → slot < length cards.new.items }
 {
     while cards.len() <= slot {
         if cards.push(Card::new()).is_err() {
@@ -490,9 +489,9 @@ fn make_room(
     letter: usize,
     path: usize,
 ) -> Result<(), NoMemory>
-    ensures same { (e p : ℕ) → number_at (map (λ r. r.items) rows.new.items) e p
+    ensures unchanged { (e p : ℕ) → number_at (map (λ r. r.items) rows.new.items) e p
         ≡ number_at (map (λ r. r.items) rows.old.items) e p }
-    ensures there { OnOk result (HasRoom (map (λ r. r.items) rows.new.items) letter path) }
+    ensures in_range { OnOk result (HasRoom (map (λ r. r.items) rows.new.items) letter path) }
 {
     add_rows(rows, alloc, letter)?;
     lengthen(&mut rows[letter], path)
@@ -500,9 +499,9 @@ fn make_room(
 
 /// Makes a row for a letter, where there is none.
 fn add_rows(rows: &mut Vec<Vec<u32>>, alloc: Global, letter: usize) -> Result<(), NoMemory>
-    ensures same { (e p : ℕ) → number_at (map (λ r. r.items) rows.new.items) e p
+    ensures unchanged { (e p : ℕ) → number_at (map (λ r. r.items) rows.new.items) e p
         ≡ number_at (map (λ r. r.items) rows.old.items) e p }
-    ensures there { OnOk result (letter < length rows.new.items) }
+    ensures in_range { OnOk result (letter < length rows.new.items) }
 {
     while rows.len() <= letter {
         rows.push(Vec::new(alloc))?;
@@ -512,8 +511,8 @@ fn add_rows(rows: &mut Vec<Vec<u32>>, alloc: Global, letter: usize) -> Result<()
 
 /// Makes a row as long as to have a path.
 fn lengthen(row: &mut Vec<u32>, path: usize) -> Result<(), NoMemory>
-    ensures same { (p : ℕ) → slice_index row.new.items p ≡ slice_index row.old.items p }
-    ensures there { OnOk result (path < length row.new.items) }
+    ensures unchanged { (p : ℕ) → slice_index row.new.items p ≡ slice_index row.old.items p }
+    ensures in_range { OnOk result (path < length row.new.items) }
 {
     while row.len() <= path {
         row.push(0)?;
@@ -524,7 +523,7 @@ fn lengthen(row: &mut Vec<u32>, path: usize) -> Result<(), NoMemory>
 /// Writes a number under a letter and a path, where there is room for it.
 fn write(rows: &mut Vec<Vec<u32>>, letter: usize, path: usize, number: u32)
     requires { HasRoom (map (λ r. r.items) rows.old.items) letter path }
-    ensures here { number_at (map (λ r. r.items) rows.new.items) letter path ≡ number }
+    ensures at_key { number_at (map (λ r. r.items) rows.new.items) letter path ≡ number }
     ensures others { (e p : ℕ) → (e ≡ letter → p ≡ path → ⊥)
         → number_at (map (λ r. r.items) rows.new.items) e p ≡ number_at (map (λ r. r.items) rows.old.items) e p }
 {

@@ -42,7 +42,7 @@ shape_of name =
     else (if bytes_eq name (codes "gen") then Some gen_shape
     else (if bytes_eq name (codes "sweep") then Some (pair_shape name) else None)))))
 
--- the words behind a name are those of its command
+-- the words after a name are those of its command
 pub record Enters (name : Text) (s : Shape) : Type 0 where
   pub shape : shape_of name ≡ Some s
   pub fault : (ws : List Text) → fault_of line_app (name ∷ ws) ≡ or_else (level s ws) []
@@ -83,7 +83,7 @@ gen_first : walked line.top.rules (names_of line) (walk_from nothing_held) (code
 unfolding walked
 gen_first = refl
 
--- the names behind `check` and `coenable`
+-- the names after `check` and `coenable`
 names_in_is : (ws : List Text) → are_names ws ≡ true → names_in ws ≡ Some ws
 names_in_is ws are = rw are refl
 
@@ -94,7 +94,7 @@ module _ (name : Text) (ws : List Text) (names : list_all is_name ws ≡ true) (
   same_names : all_of (codes "names") (rows (names_shape name) ws) ≡ names_in ws
   same_names = found_names ∙ sym (names_in_is ws (takes_names name ws names free))
 
--- the two names behind `replay` and `sweep`
+-- the two names after `replay` and `sweep`
 module _ (name : Text) (ws : List Text) (names : list_all is_name ws ≡ true) (free : level (pair_shape name) ws ≡ []) where
   two_names : (a : Text) × (b : Text) × (ws ≡ a ∷ b ∷ []) × (is_name a ≡ true) × (is_name b ≡ true)
   two_names = takes_pair name ws names free
@@ -124,7 +124,7 @@ sweep_command ws names free =
       ap (found_command (codes "sweep")) found_is ∙ sym spelled ∙ sym (ap (λ x. command_of (codes "sweep" ∷ x)) two.2),
     )
 
--- the word behind `gen`
+-- the word after `gen`
 one_command : (ws : List Text) → list_all is_name ws ≡ true → level gen_shape ws ≡ []
     → (is_whole (codes "gen") (rows gen_shape ws) ≡ true) × (found_command (codes "gen") (rows gen_shape ws) ≡ command_of (codes "gen" ∷ ws))
 one_command ws names free =

@@ -11,7 +11,7 @@ use Rattle.jm_cli.specs.Line.{line_shape, names_shape, alone}
 abbrev pub leaf : Shape → Shape
 leaf s = built_leaf (inherited (with_leaf_noted (marked_built line_shape)) s)
 
--- the faults of the words behind it, and what is found in them
+-- the faults of the words after it, and what is found in them
 abbrev pub level : Shape → List Text → Kinds
 level s ws = level_fault (leaf s) [] nothing_held ws false []
 

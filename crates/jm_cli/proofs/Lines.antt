@@ -41,7 +41,7 @@ no_separator [] after names = false≢true names
 no_separator (w ∷ before) after names = no_separator before after (both (is_name w) (list_all is_name (before ++ codes "--" ∷ after)) names).1
 
 module _ (words : List Text) (names : list_all is_name words ≡ true) (none : fault_of line_app words ≡ []) where
-  -- the command that was entered, and the words behind it
+  -- the command that was entered, and the words after it
   behind : (name : Text) (found : List Row) → subcommand_of line_app words ≡ Some (name, found)
       → (ws : List Text) × (s : Shape) × (words ≡ name ∷ ws) × Enters name s × (found ≡ rows s ws) × (list_all is_name ws ≡ true) × (level s ws ≡ [])
   behind name found is =

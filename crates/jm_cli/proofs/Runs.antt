@@ -52,7 +52,7 @@ pub run_told_around : (before after specs : List Text) → before ≡ codes "run
     → run_command before after ≡ Some (Run specs after)
 run_told_around before after specs is are after_are = rw is (rw (are, after_are) refl)
 
--- and those behind `audit` that alone
+-- and those after `audit` that alone
 pub audits : (before after : List Text) (c : CommandWords) → audit_around before after ≡ Some c
     → (history : Text) × (specs : List Text) × (before ≡ history ∷ specs) × (is_name history ≡ true) × (are_names specs ≡ true) × (are_names after ≡ true)
     × (Audit history specs after ≡ c)

@@ -41,7 +41,7 @@ abbrev pub rounds_of : Text → Option ℕ
 rounds_of word =
     if is_short_number word && nat_le (digits_value 10 word) 8000 then Some (digits_value 10 word) else None
 
--- what the words behind each command's own word spell
+-- what the words after each command's own word spell
 abbrev pub replay_of : List Text → Option CommandWords
 replay_of (spec ∷ script ∷ []) = if is_name spec && is_name script then Some (Replay spec script) else None
 replay_of _ = None

@@ -122,7 +122,7 @@ fn is_audit(words: &[String]) -> bool
     }
 }
 
-/// The command that the names behind `audit`, around a separator, spell.
+/// The command that the names after `audit`, around a separator, spell.
 fn read_audit(alloc: Global, before: &[String], after: &[String]) -> Result<Command, WordsError>
     requires before { list_all is_name (map string_bytes before.now) ≡ true }
     requires after { list_all is_name (map string_bytes after.now) ≡ true }

@@ -9,7 +9,7 @@ use jm_table::NumberSet;
 use std::alloc::Global;
 use std::marker::Model;
 
-/// So many words have a bit for each of 256 masks.
+/// The number of words that have a bit for each of 256 masks.
 const WORDS: usize = 4;
 
 /// A set of masks, which are numbers below 256. Contracts see it as the list of its masks, in order.
@@ -41,7 +41,7 @@ impl MaskSet {
     /// Whether the mask is in the set.
     pub(crate) fn contains(&self, mask: u8) -> bool
         ensures member { IsTrue result ↔ Contains self.now mask }
-        ensures few { (other : ℕ) → Contains self.now other → other < 256 }
+        ensures bounded { (other : ℕ) → Contains self.now other → other < 256 }
     {
         self.masks.contains(mask as u16)
     }
@@ -50,7 +50,7 @@ impl MaskSet {
     pub(crate) fn insert(&mut self, mask: u8)
         ensures member { (other : ℕ) → Contains self.new other ↔ (Contains self.old other ⊎ (other ≡ mask)) }
         ensures longer { (Contains self.old mask → ⊥) → length self.old < length self.new }
-        ensures few { length self.new ≤ 256 }
+        ensures bounded { length self.new ≤ 256 }
     {
         self.masks.insert(mask as u16);
     }
@@ -98,7 +98,7 @@ impl MaskSet {
         ensures rising { IfOk result (λ masks. IsStrictlySortedBy nat_cmp masks.items) }
         ensures exact { IfOk result (λ masks. (mask : ℕ) → mask < 256
             → Contains masks.items mask ↔ Contains self.now mask) }
-        ensures few { IfOk result (λ masks. (mask : ℕ) → Contains masks.items mask → mask < 256) }
+        ensures bounded { IfOk result (λ masks. (mask : ℕ) → Contains masks.items mask → mask < 256) }
     {
         let mut masks = Vec::new(alloc);
         for number in 0..256u16 {

@@ -84,7 +84,7 @@ impl Needs {
         ensures exact { (t : Transitions) (g : GoalDefinition) (v : EventDefinitions) → AreNeedsOf t g v self.now →
             IfOk result (λ masks. (mask : ℕ) → mask < 256
             → Contains masks.items mask ↔ IsInFamily t g v letter.0 mask) }
-        ensures few { IfOk result (λ masks. (mask : ℕ) → Contains masks.items mask → mask < 256) }
+        ensures bounded { IfOk result (λ masks. (mask : ℕ) → Contains masks.items mask → mask < 256) }
     {
         let alloc = *self.families.allocator();
         self.families[letter.0 as usize].masks(alloc)

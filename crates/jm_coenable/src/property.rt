@@ -63,7 +63,7 @@ fn is_reset(table: &Table, goal: &Goal, state: u16) -> bool
 fn resets(table: &Table, goal: &Goal, state: u16, handler: u8) -> bool
     requires state { state < table.now.states }
     requires groups { All (λ group. group < length table.now.groups) goal.now.groups }
-    requires few { handler < 16 }
+    requires bounded { handler < 16 }
     requires handler { handler < length goal.now.groups }
     ensures { (group : ℕ) → slice_get goal.now.groups handler ≡ Some group →
         result ≡ ((bit_at goal.now.resets handler == 1) && is_in_group table.now state group) }

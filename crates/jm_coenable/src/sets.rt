@@ -6,7 +6,7 @@ use crate::mask_set::MaskSet;
 use jm_model::NoMemory;
 use std::alloc::Global;
 
-/// So many empty sets.
+/// The given number of empty sets.
 pub(crate) fn empty_sets(alloc: Global, count: u16) -> Result<Vec<MaskSet>, NoMemory>
     ensures count { IfOk result (λ sets. length sets.items ≡ count) }
     ensures empty { IfOk result (λ sets. (place member : ℕ) → ¬ Contains (set_at sets.items place) member) }

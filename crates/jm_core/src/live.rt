@@ -41,7 +41,7 @@ impl<M: Monitor> Live<M> {
         requires eight { length call.now.binding.now ≡ 8 }
         requires event { first_dead_by call.now.objects.now call.now.binding.now ≡ None → IsLiveEvent
             (M.meaning (M.definition call.now.rules.now)) call.now.objects.now call.now.letter.0 call.now.binding.now }
-        requires there { AreBelow (length call.now.objects.now) call.now.binding.now }
+        requires in_range { AreBelow (length call.now.objects.now) call.now.binding.now }
         requires listed { AreListed (M.meaning (M.definition call.now.rules.now)) (M.StandsFor call.now.rules.now)
             call.now.objects.now self.old.store.monitors self.old.awake }
         ensures { Performs (M.meaning (M.definition call.now.rules.now)) (M.StandsFor call.now.rules.now)
@@ -196,7 +196,7 @@ fn list_if<M: Monitor>(call: &Call<M>, store: &Store<M>, awake: &mut Awake, list
 /// The first dead object that a binding binds, in the order of the parameters.
 fn first_dead(objects: &Objects, binding: &Binding) -> Option<u32>
     requires eight { length binding.now ≡ 8 }
-    requires there { AreBelow (length objects.now) binding.now }
+    requires in_range { AreBelow (length objects.now) binding.now }
     ensures { result ≡ first_dead_by objects.now binding.now }
 {
     for p in 0..8 {

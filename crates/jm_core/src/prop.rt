@@ -167,7 +167,7 @@ impl<M: Monitor> Prop<M> {
 
     /// A step that is not recorded yet, with the memory that its entry takes.
     fn node(&mut self, caller: u32, line: u32, step: Step) -> Result<Node, NoMemory>
-        ensures same { self.new ≡ self.old }
+        ensures unchanged { self.new ≡ self.old }
         ensures node { IfOk result (λ node. node ≡ record { caller = caller; line = line; step = step }) }
     {
         self.history.node(self.alloc, caller, line, step)

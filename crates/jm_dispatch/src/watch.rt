@@ -172,7 +172,7 @@ impl<M: Monitor> Watch<M> {
     pub fn note(&self, seat: &mut Seat<M>) -> Note<M>
         requires { IsSeatOf self.now seat.old }
         ensures note { result ≡ note_of seat.old }
-        ensures same { seat.new ≡ seat.old }
+        ensures unchanged { seat.new ≡ seat.old }
     {
         self.lock.note(seat)
     }

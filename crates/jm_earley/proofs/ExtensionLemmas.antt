@@ -102,7 +102,7 @@ module _ (g : GrammarDefinition) where
   elsewhere : (word word' more more' : List ℕ) → word ≡ word' → more ≡ more' → IsFound word more → IsFound word' more'
   elsewhere word word' more more' e f h = subst (λ (m : List ℕ). IsFound word' m) f (subst (λ (l : List ℕ). IsFound l more) e h)
 
-  -- the item is in these trees or below them: their word is cut behind x
+  -- the item is in these trees or below them: their word is cut after x
   find : {back : List GrammarSymbol} {w : List ℕ} → Trees ps back w
       → (before follows : List ℕ) (p : Production) → IsRest ps g.start before p.left follows → Contains ps p
       → (front : List GrammarSymbol) → p.symbols ≡ front ++ back → (v : List ℕ) → Trees ps front v

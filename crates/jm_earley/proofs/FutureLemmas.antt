@@ -86,7 +86,7 @@ module _ (g : GrammarDefinition) (small : IsSmall g.productions g.start) (set : 
   asked_back AnyLength behind follows asked = tt
   asked_back (NotEmpty ends) behind follows asked = some_back behind follows asked
 
-  -- such a rest may follow the nonterminal behind the word
+  -- such a rest may follow the nonterminal after the word
   abbrev CanFollow : Rest → List ℕ → ℕ → Type 0
   CanFollow rest w n = (letters : List ℕ) × All (IsBitSet A) letters × IsRest ps g.start w n letters × IsAsked rest letters
 

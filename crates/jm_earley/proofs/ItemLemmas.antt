@@ -27,7 +27,7 @@ module _ (g : GrammarDefinition) where
   abbrev pub at_dot : Item → ℕ → Item
   at_dot x dot = record x { dot = dot }
 
-  -- ---- what stands behind a dot
+  -- ---- what stands after a dot
 
   pub after_parts : (x : Item) (s : GrammarSymbol) → symbol_after g x ≡ Some s → (p : Production) × (slice_get g.productions x.production ≡ Some p) × (slice_get p.symbols x.dot ≡ Some s)
   after_parts x s h = option_and_then_some (λ (p : Production). slice_get p.symbols x.dot) (slice_get g.productions x.production) s h (λ p at here. (p, at, here))
@@ -77,7 +77,7 @@ module _ (g : GrammarDefinition) where
     trees = no_tree;
   }
 
-  -- what an item awaits is awaited behind the word
+  -- what an item awaits is awaited after the word
   pub item_awaits : (word : List ℕ) (x : Item) (n : ℕ) → IsItem g word x → symbol_after g x ≡ Some (Nonterminal n) → IsAwaited g.productions g.start word n
   item_awaits word x n item after =
       let parts = after_parts x (Nonterminal n) after in
@@ -184,7 +184,7 @@ module _ (g : GrammarDefinition) where
           (λ none. here (cut ∙ ap (λ (l : List ℕ). l ++ others) none ∙ empty)))
           dot (omega (arith, e))
 
-      -- the productions of what is awaited behind the word begin there
+      -- the productions of what is awaited after the word begin there
       predicted_at : {before : List ℕ} {n : ℕ} → IsAwaited g.productions g.start before n → before ≡ word → ArePredicted g (length word) n items
       predicted_at at_start e = subst (λ (k : ℕ). ArePredicted g k g.start items) (ap length e) (begun (sym e))
       predicted_at (inside before spelled whole p front n back awaited there split trees is) e =

@@ -57,7 +57,7 @@ number_le ps sorted i j p q at_i at_j le = elim (cases_lt j i) [
   | inr ge ↦ ge
 ]
 
--- one place more, behind the others
+-- one place more, after the others
 pub sorted_push : (ps : List Place) (p : Place) → IsSorted ps → ((q : Place) → Contains ps q → q.position < p.position) → IsSorted (ps ++ p ∷ [])
 sorted_push ps p sorted behind i j a b lt at_i at_j = elim (slice_get-push_cases ps p i a at_i) [
   | inl first ↦ elim (slice_get-push_cases ps p j b at_j) [
@@ -76,7 +76,7 @@ sorted_push ps p sorted behind i j a b lt at_i at_j = elim (slice_get-push_cases
 abbrev pub IsBetween : List Place → ℕ → ℕ → ℕ → Type 0
 IsBetween ps position low high = (number : ℕ) (p : Place) → slice_get ps number ≡ Some p → p.position ≡ position → (low ≤ number) × (number < high)
 
--- the last place is behind the others
+-- the last place is after the others
 pub last_behind : (ps : List Place) → IsSorted ps → (last : Place) → slice_get ps (length ps - 1) ≡ Some last → (number : ℕ) (p : Place) → slice_get ps number ≡ Some p → p.position < last.position + 1
 last_behind ps sorted last end number p at =
     elim (cases_lt last.position p.position) [

@@ -65,7 +65,7 @@ module _ {X : Type 0} where
   take-get (y ∷ xs) (suc n) zero x lt h = h
   take-get (y ∷ xs) (suc n) (suc k) x lt h = take-get xs n k x (omega (arith, lt)) h
 
-  -- what stands first behind a front
+  -- what stands first after a front
   pub place_behind : (xs front : List X) (x : X) (back : List X) → xs ≡ front ++ x ∷ back → slice_get xs (length front) ≡ Some x
   place_behind xs front x back e = ap (λ l. slice_get l (length front)) e ∙ by front
     where

@@ -22,7 +22,7 @@ on_ok_both (Ok x) f p q = f p q
 on_ok_both (Err e) f p q = tt
 
 module _ (g : GrammarDefinition) where
-  -- an item with a symbol behind its dot is not finished
+  -- an item with a symbol after its dot is not finished
   pub not_finished : (x : Item) (s : GrammarSymbol) (n : ℕ) → symbol_after g x ≡ Some s → finished_left g x ≡ Some n → ⊥
   not_finished x s n after finished =
       let a = after_parts g x s after in

@@ -56,7 +56,7 @@ module _ (charts : ChartsDefinition) where
     pub linked : AreLinked chart.places
 
 module _ (charts : ChartsDefinition) (earlier : List Place) (position : ℕ) where
-  -- The place has this position and these items, and what may follow where these are the items behind earlier places.
+  -- The place has this position and these items, and what may follow where these are the items after earlier places.
   pub record IsPlaceWith (items : List Item) (p : Place) : Type 0 where
     pub position_is : p.position ≡ position
     pub items_are : p.items ≡ items

@@ -9,8 +9,8 @@ use Rattle.jm_grammar.specs.Meanings.{Trees, Derives, IsWord}
 use Rattle.jm_earley.specs.declared.item.Item.{Item}
 use Rattle.jm_earley.specs.Items.{IsItem}
 
--- The rest may follow the nonterminal that is awaited behind a word: nothing follows the start behind no letter; and
--- inside of a production, what the symbols behind the nonterminal spell is followed by what may follow the production's
+-- The rest may follow the nonterminal that is awaited after a word: nothing follows the start after no letter; and
+-- inside of a production, what the symbols after the nonterminal spell is followed by what may follow the production's
 -- left side where the production began.
 pub data IsRest (productions : List Production) (start : ℕ) : Word → ℕ → Word → Type 0 where
   at_end : IsRest productions start [] start []
@@ -25,7 +25,7 @@ pub data IsRest (productions : List Production) (start : ℕ) : Word → ℕ →
       → rest ≡ behind ++ follows
       → IsRest productions start word n rest
 
--- the letters may follow a word by way of this item: the symbols behind its dot spell a front of them, and the others
+-- the letters may follow a word by way of this item: the symbols after its dot spell a front of them, and the others
 -- may follow its left side
 pub record IsContinuation (g : GrammarDefinition) (word : Word) (item : Item) (more : Word) : Type 0 where
   pub is_item : IsItem g word item
@@ -36,7 +36,7 @@ pub record IsContinuation (g : GrammarDefinition) (word : Word) (item : Item) (m
   pub rest : IsRest g.productions g.start is_item.before is_item.production.left follows
 
 module _ (g : GrammarDefinition) (letters : ℕ) (word : Word) where
-  -- some rest of these letters may follow the nonterminal behind the word
+  -- some rest of these letters may follow the nonterminal after the word
   abbrev pub CanEnd : ℕ → Type 0
   CanEnd n = (rest : Word) × All (IsBitSet letters) rest × IsRest g.productions g.start word n rest
 

@@ -46,7 +46,7 @@ module _ (g : GrammarDefinition) (place : ℕ) where
   abbrev pub IsPredictedSet : ℕ → List Item → Type 0
   IsPredictedSet predicted items = (n : ℕ) → IsBitSet predicted n → ArePredicted n items
 
--- at a place behind those kept
+-- at a place after those kept
 module _ (g : GrammarDefinition) (kept : List Place) (place : ℕ) where
   -- What the rules make of an item: the productions of the nonterminal that it awaits; the item itself over a
   -- nonterminal that spells the empty word; the items that awaited its left side, where it is finished.

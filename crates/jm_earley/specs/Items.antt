@@ -8,7 +8,7 @@ use Rattle.jm_grammar.specs.Grammars.{GrammarDefinition}
 use Rattle.jm_grammar.specs.Meanings.{Trees}
 use Rattle.jm_earley.specs.declared.item.Item.{Item}
 
--- The nonterminal is awaited behind the word: from the start on, symbols are derived that spell the word, and the
+-- The nonterminal is awaited after the word: from the start on, symbols are derived that spell the word, and the
 -- nonterminal comes next.
 pub data IsAwaited (productions : List Production) (start : ℕ) : Word → ℕ → Type 0 where
   at_start : IsAwaited productions start [] start
@@ -26,7 +26,7 @@ abbrev pub advanced : Item → Item
 advanced item = record item { dot = item.dot + 1 }
 
 module _ (g : GrammarDefinition) where
-  -- The item is one of the word's: its production's left side is awaited behind the front of the word up to its origin,
+  -- The item is one of the word's: its production's left side is awaited after the front of the word up to its origin,
   -- and the symbols before its dot spell the rest.
   pub record IsItem (word : Word) (item : Item) : Type 0 where
     pub production : Production
@@ -43,7 +43,7 @@ module _ (g : GrammarDefinition) where
   abbrev pub IsItemSet : Word → List Item → Type 0
   IsItemSet word items = (item : Item) → Contains items item ↔ IsItem word item
 
-  -- the symbol behind the item's dot
+  -- the symbol after the item's dot
   abbrev pub symbol_after : Item → Option GrammarSymbol
   symbol_after item = option_and_then (λ p. slice_get p.symbols item.dot) (slice_get g.productions item.production)
 

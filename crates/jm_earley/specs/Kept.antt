@@ -26,7 +26,7 @@ module _ (places : List Place) where
   abbrev pub IsOrigin : List Item → ℕ → Type 0
   IsOrigin items number = (x : Item) × Contains items x × IsPlaceNumber x.origin number
 
-  -- no item began behind its place
+  -- no item began after its place
   abbrev pub AreBack : Type 0
   AreBack = (position : ℕ) (p : Place) → place_at places position ≡ Some p → (x : Item) → Contains p.items x
       → x.origin ≤ position
@@ -38,15 +38,15 @@ module _ (places : List Place) where
   AreLinked = (number : ℕ) (p q : Place) → slice_get places number ≡ Some p
       → slice_get places (number + 1) ≡ Some q → (x : Item) × Contains q.items x × (x.origin ≡ p.position)
 
-  -- ---- what is kept behind a new place
+  -- ---- what is kept after a new place
 
-  -- the number behind the last place where one of the items began, and 0 where none did
+  -- the number after the last place where one of the items began, and 0 where none did
   pub record IsReach (items : List Item) (count : ℕ) : Type 0 where
     pub within : count ≤ length places
     pub all : (number : ℕ) → IsOrigin items number → number < count
     pub last : (number : ℕ) → number + 1 ≡ count → IsOrigin items number
 
-  -- the number behind the place at a position, if that is more than the number so far
+  -- the number after the place at a position, if that is more than the number so far
   pub record IsReachTo (position : ℕ) (old new : ℕ) : Type 0 where
     pub within : new ≤ length places
     pub kept : old ≤ new
@@ -54,7 +54,7 @@ module _ (places : List Place) where
     pub last : (new ≡ old) ⊎ ((number : ℕ) × (number + 1 ≡ new) × IsPlaceNumber position number)
 
 -- The place is the last of the new ones, and the others are old ones: each where an item of a new one began, if no item
--- began behind its place, and none that the last place doesn't reach, if it was so before.
+-- began after its place, and none that the last place doesn't reach, if it was so before.
 pub record IsFollowedBy (old : List Place) (place : Place) (new : List Place) : Type 0 where
   pub ends : slice_get new (length new - 1) ≡ Some place
   pub here : place_at new place.position ≡ Some place

@@ -17,7 +17,7 @@ use Rattle.jm_earley.specs.Kept.{place_at}
 use Rattle.jm_earley.specs.Rules.{only, has, no_rule}
 use Rattle.jm_earley.specs.LetterSets.{can_spell, can_go_on}
 
--- the nonterminal that comes next, if the symbols behind it spell a word
+-- the nonterminal that comes next, if the symbols after it spell a word
 abbrev pub link_from : ℕ → LetterSet → List GrammarSymbol → Option Link
 link_from left set [] = None
 link_from left set (Letter a ∷ back) = None
@@ -28,7 +28,7 @@ abbrev pub link_in : Item → LetterSet → Option Production → Option Link
 link_in item set None = None
 link_in item set (Some p) = link_from p.left set (drop item.dot p.symbols)
 
--- the nonterminal behind the item's dot
+-- the nonterminal after the item's dot
 abbrev pub link_of : List Production → LetterSet → Item → Option Link
 link_of productions set item = link_in item set (slice_get productions item.production)
 
@@ -61,7 +61,7 @@ rest_rules g rest set number earlier items =
     start_rule rest g.start earlier ∷ map (λ (item : Item). rest_rule rest (link_of g.productions set item)
     (future_at earlier number item.origin)) items
 
--- the symbols behind the dot and a rest behind the left side have letters, or one of the two
+-- the symbols after the dot and a rest after the left side have letters, or one of the two
 abbrev pub keeps_alive_in : Item → LetterSet → Future → Option Production → Bool
 keeps_alive_in item set there None = false
 keeps_alive_in item set there (Some p) =

@@ -157,7 +157,7 @@ impl Charts {
 }
 
 impl Charts {
-    /// The chart whose last place has the items that the rules make of the first ones, behind earlier places.
+    /// The chart whose last place has the items that the rules make of the first ones, after earlier places.
     fn chart_with(&self, earlier: &Places, position: u32, first: ItemSet) -> Result<Chart, NoMemory>
         requires { (number : ℕ) (p : Place) → slice_get earlier.now number ≡ Some p → p.position < position }
         ensures { AreWaiting self.now.grammar earlier.now
@@ -169,7 +169,7 @@ impl Charts {
         Ok(Chart { places })
     }
 
-    /// The place with these items, behind earlier places.
+    /// The place with these items, after earlier places.
     fn place_with(&self, earlier: &Places, position: u32, items: ItemSet) -> Result<Place, NoMemory>
         ensures { IfOk result (IsPlaceWith self.now earlier.now position items) }
     {
@@ -191,7 +191,7 @@ impl Charts {
         self.grammar.productions()
     }
 
-    /// The symbol behind the dot of an item.
+    /// The symbol after the dot of an item.
     pub(crate) fn symbol_after(&self, item: Item) -> Option<GrammarSymbol>
         ensures value { result ≡ symbol_after self.now.grammar item }
         ensures small { IfSome result IsSmallSymbol }
@@ -203,7 +203,7 @@ impl Charts {
         }
     }
 
-    /// Whether the symbol stands behind the dot of an item.
+    /// Whether the symbol stands after the dot of an item.
     pub(crate) fn is_before(&self, item: Item, symbol: GrammarSymbol) -> bool
         ensures value { IsTrue result ↔ (symbol_after self.now.grammar item ≡ Some symbol) }
         ensures room { IsTrue result → item.dot < 32 }

@@ -162,7 +162,7 @@ fn start_rule(rest: Rest, start: u8, earlier: &Places) -> Rule
     }
 }
 
-/// Whether the letters of the set may go on behind the item.
+/// Whether the letters of the set may go on after the item.
 fn keeps_alive(productions: &[Production], set: LetterSet, there: Future, item: Item) -> bool
     ensures { result ≡ keeps_alive_in item set there (slice_get productions.now item.production) }
 {
@@ -204,7 +204,7 @@ impl<'a> Question<'a> {
         Ok(gained(rules.as_slice()))
     }
 
-    /// Whether letters of the set may go on behind one of the items.
+    /// Whether letters of the set may go on after one of the items.
     fn is_alive(&self, productions: &[Production], here: Future) -> bool
         ensures { result ≡ list_any
             (keeps_alive productions.now self.now.set self.now.number self.now.earlier.now here) self.now.items.now }

@@ -22,7 +22,7 @@ struct Growth {
 }
 
 impl Charts {
-    /// The items that the rules make of the first ones, at a place behind those kept.
+    /// The items that the rules make of the first ones, at a place after those kept.
     pub(crate) fn close(
         &self,
         kept: &Places,

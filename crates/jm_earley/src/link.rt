@@ -1,4 +1,4 @@
-//! What an item says of the nonterminal behind its dot.
+//! What an item says of the nonterminal after its dot.
 ghost use Rattle.std.specs.Prelude.{◌≡◌, drop};
 ghost use Rattle.jm_earley.specs.Links.{link_from, link_of};
 
@@ -6,7 +6,7 @@ use crate::item::Item;
 use crate::letter_set::LetterSet;
 use jm_grammar::{GrammarSymbol, Production};
 
-/// The nonterminal behind an item's dot, where the symbols behind it spell a word of some letters, and whether they
+/// The nonterminal after an item's dot, where the symbols after it spell a word of some letters, and whether they
 /// spell one of one or more.
 #[derive(Clone, Copy)]
 pub(crate) struct Link {
@@ -46,7 +46,7 @@ fn link_from(left: u8, set: LetterSet, symbols: &[GrammarSymbol]) -> Option<Link
     }
 }
 
-/// The nonterminal behind the item's dot.
+/// The nonterminal after the item's dot.
 pub(crate) fn link_of(productions: &[Production], set: LetterSet, item: Item) -> Option<Link>
     ensures { result ≡ link_of productions.now set item }
 {

@@ -139,7 +139,7 @@ impl Places {
         Ok(Places { list })
     }
 
-    /// The places up to the last where an item of a new one began, and the new one behind them.
+    /// The places up to the last where an item of a new one began, and the new one after them.
     pub(crate) fn followed_by(&self, place: Place) -> Result<Places, NoMemory>
         requires { (number : ℕ) (p : Place) → slice_get self.now number ≡ Some p → p.position < place.position }
         ensures { IfOk result (IsFollowedBy self.now place) }
@@ -150,7 +150,7 @@ impl Places {
         Ok(Places { list })
     }
 
-    /// The number behind the last place where one of the items began.
+    /// The number after the last place where one of the items began.
     fn reach(&self, items: &[Item]) -> usize
         ensures { IsReach self.now items.now result }
     {
@@ -161,7 +161,7 @@ impl Places {
         count
     }
 
-    /// The number behind the place at a position, if that is more than the number so far.
+    /// The number after the place at a position, if that is more than the number so far.
     fn reach_to(&self, position: u32, count: usize) -> usize
         requires { count ≤ length self.now }
         ensures { IsReachTo self.now position count result }
@@ -175,7 +175,7 @@ impl Places {
         }
     }
 
-    /// Whether the last of the first places is at the position or behind it.
+    /// Whether the last of the first places is at the position or after it.
     fn is_passed(&self, position: u32, count: usize) -> bool
         requires { count ≤ length self.now }
         ensures passed { IsTrue result → (number : ℕ) → IsPlaceNumber self.now position number → number < count }

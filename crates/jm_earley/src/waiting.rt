@@ -36,7 +36,7 @@ impl Waiting {
 
     /// Adds an item that awaits a nonterminal.
     fn add(&mut self, n: u8, item: Item) -> Result<(), NoMemory>
-        ensures here { OnOk result (slice_index_or self.new n [] ≡ slice_index_or self.old n [] ++ item ∷ []) }
+        ensures at_key { OnOk result (slice_index_or self.new n [] ≡ slice_index_or self.old n [] ++ item ∷ []) }
         ensures others { OnOk result ((m : ℕ) → m ≢ n → slice_index_or self.new m [] ≡ slice_index_or self.old m []) }
     {
         self.extend(n)?;
@@ -45,8 +45,8 @@ impl Waiting {
 
     /// Adds empty lists up to that of a nonterminal.
     fn extend(&mut self, n: u8) -> Result<(), NoMemory>
-        ensures there { OnOk result (n < length self.new) }
-        ensures same { OnOk result ((m : ℕ) → slice_index_or self.new m [] ≡ slice_index_or self.old m []) }
+        ensures in_range { OnOk result (n < length self.new) }
+        ensures unchanged { OnOk result ((m : ℕ) → slice_index_or self.new m [] ≡ slice_index_or self.old m []) }
     {
         let alloc = *self.lists.allocator();
         'lists: while self.lists.len() <= n as usize {
@@ -58,7 +58,7 @@ impl Waiting {
     /// Adds an item to the list of a nonterminal.
     fn put(&mut self, n: u8, item: Item) -> Result<(), NoMemory>
         requires { n < length self.old }
-        ensures here { OnOk result (slice_index_or self.new n [] ≡ slice_index_or self.old n [] ++ item ∷ []) }
+        ensures at_key { OnOk result (slice_index_or self.new n [] ≡ slice_index_or self.old n [] ++ item ∷ []) }
         ensures others { OnOk result ((m : ℕ) → m ≢ n → slice_index_or self.new m [] ≡ slice_index_or self.old m []) }
     {
         let list = &mut self.lists[n as usize];

@@ -82,7 +82,7 @@ module _ (bytes : List ℕ) where
   begins _ _ _ (one_and tokens f d) = begins _ tokens f d
   begins _ _ _ (either front mark behind f g d h k) = begins_longer front (mark ∷ behind) (begins _ front f d)
 
-  -- where such tokens follow an operand, they are read as behind a juxtaposition
+  -- where such tokens follow an operand, they are read as after a juxtaposition
   starts_next : (os : List Node) (e b t : Bool) (n : ℕ) (outer : List Pending) (s : Sign) → Starts s → after_sign (at os e b t n true outer) s ≡ after_sign (juxtaposed (at os e b t n true outer)) s
   starts_next os e b t n outer (Operand atom) h = refl
   starts_next os e b t n outer Opening h = refl
@@ -100,7 +100,7 @@ module _ (bytes : List ℕ) where
       let one : after_sign p (sign_of bytes h.token) ≡ after_sign (juxtaposed p) (sign_of bytes h.token) = ap (λ (x : Sign). after_sign p x) h.means ∙ starts_next os e b t n outer h.sign h.starts ∙ sym (ap (λ (x : Sign). after_sign (juxtaposed p) x) h.means) in
       ap (λ (l : List Token). after_all bytes p l) h.cut ∙ ap (option_and_then (λ next. after_all bytes next h.rest)) one ∙ sym (ap (λ (l : List Token). after_all bytes (juxtaposed p) l) h.cut)
 
--- ---- nodes one behind the other
+-- ---- nodes one after the other
 
 pub complements_turn : (n : ℕ) → complements n ++ Wrap Not ∷ [] ≡ Wrap Not ∷ complements n
 complements_turn zero = refl

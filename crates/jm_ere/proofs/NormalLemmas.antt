@@ -137,7 +137,7 @@ placed_keeps op Less t r run rest same held behind = itself (InLanguage (Combina
 placed_keeps op Equal t r run rest same held behind = subst (λ e. Alike run (Combination op e run)) (sym (same refl)) held
 placed_keeps op Greater t r run rest same held behind = behind
 
--- of what stands behind the first member of the run
+-- of what stands after the first member of the run
 put_behind : (op : Operator) (t r s rest : Expression) → Alike rest (Combination op t s) → Alike (Combination op r rest) (Combination op t (Combination op r s))
 put_behind op t r s rest keeps =
     through (InLanguage (Combination op r rest)) (InLanguage (Combination op r (Combination op t s))) (InLanguage (Combination op t (Combination op r s))) (combination_keeps op r rest r (Combination op t s) (itself (InLanguage r)) keeps) (turn op t r s)

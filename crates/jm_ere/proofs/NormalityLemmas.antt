@@ -61,7 +61,7 @@ record IsRun (run : Expression) : Type 0 where
   normal : IsNormal run
   proper : IsProper run
 
--- a run, of which the first member is behind whatever both are behind
+-- a run, of which the first member is after whatever both are after
 record IsPut (op : Operator) (t run put : Expression) : Type 0 where
   run_of : IsRun put
   behind : (c : Expression) → order c t ≡ Less → order c (first_of op run) ≡ Less → order c (first_of op put) ≡ Less

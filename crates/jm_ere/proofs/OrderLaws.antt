@@ -24,7 +24,7 @@ then_again Less b c = refl
 then_again Equal b c = refl
 then_again Greater b c = refl
 
--- the lists of kinds are ordered as the expressions are, and then as what stands behind
+-- the lists of kinds are ordered as the expressions are, and then as what stands after
 kinds_tell : (r s : Expression) (u v : List ℕ) → slice_cmp nat_cmp (kinds_of r u) (kinds_of s v) ≡ ordering_then (order r s) (slice_cmp nat_cmp u v)
 kinds_tell (Symbol x) (Symbol y) u v = refl
 kinds_tell EmptyWord EmptyWord u v = refl

@@ -21,10 +21,10 @@ use Rattle.jm_ere.specs.Rules.{sign_of, postfix, flag, complements, fresh, begin
 use Rattle.jm_ere.proofs.SignLemmas.{Says, sign_says}
 use Rattle.jm_ere.proofs.CompleteLemmas.{at, complements_turn}
 
--- ---- lists one behind the other
+-- ---- lists one after the other
 
 module _ {X : Type 0} where
-  -- more behind the last of five
+  -- more after the last of five
   behind_five : (a b c d e all more : List X) → all ≡ a ++ (b ++ (c ++ (d ++ e))) → all ++ more ≡ a ++ (b ++ (c ++ (d ++ (e ++ more))))
   behind_five a b c d e all more h =
       ap (λ l. l ++ more) h
@@ -193,7 +193,7 @@ module _ (bytes : List ℕ) where
                 ∙ sym (whole.2 ∙ ap (λ (l : List Node). (h.oe ++ l) ++ flag e Either) both_ended.2),
           )
 
-      -- ---- the tokens behind it
+      -- ---- the tokens after it
 
       juxtaposes : Waits e b true 0 ts (os ++ (complements n ++ flag t Then))
       juxtaposes = record {

@@ -5,7 +5,7 @@ use Rattle.jm_model.specs.Words.{Word}
 use Rattle.jm_ere.specs.declared.tree.Operator.TheVariants.{Or, And}
 use Rattle.jm_ere.specs.Expressions.{Expression, Symbol, EmptyWord, NoWord, Complement, Star, Plus, Product, Combination}
 
--- a word of the first language, and one of the second behind it
+-- a word of the first language, and one of the second after it
 abbrev pub IsSplit : (Word → Type 0) → (Word → Type 0) → Word → Type 0
 IsSplit L M word = (front : Word) × (back : Word) × (word ≡ front ++ back) × L front × M back
 

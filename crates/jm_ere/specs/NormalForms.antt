@@ -109,7 +109,7 @@ abbrev pub product_of : Expression → Expression → Expression
 product_of r s = if is_nothing s then NoWord else (if is_epsilon s then r else before r s)
 
 -- A run of an operator is nested to the right, and sorted without doubles. One more member `t` of such a run, whose
--- first member is `r`; `rest` is what then stands behind `r`, if `t` belongs there:
+-- first member is `r`; `rest` is what then stands after `r`, if `t` belongs there:
 abbrev pub placed : Operator → Expression → Expression → Expression → Expression → Expression
 placed op t r run rest = by_order (order t r) (Combination op t run) run (Combination op r rest)
 

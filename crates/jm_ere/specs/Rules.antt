@@ -1,5 +1,5 @@
 -- How a reader goes over the tokens of a formula: what a token means, and what was read so far after it. The nodes of
--- the formula are written with each operator behind its operands.
+-- the formula are written with each operator after its operands.
 use Rattle.std.specs.Prelude.{ℕ, zero, suc, ◌≡◌, Bool, true, false, List, [], ◌∷◌, ◌++◌, Option, Some, None, Result, Ok, Err, option_and_then, codes, if◌then◌else◌}
 use Rattle.jm_model.specs.Words.{Text}
 use Rattle.jm_model.specs.declared.fault.SpecError.{SpecError}
@@ -77,7 +77,7 @@ with_nodes p nodes = record p { nodes = p.nodes ++ nodes }
 abbrev pub with_pending : Parser → Pending → Parser
 with_pending p f = record p { pending = f }
 
--- another operand begins behind the last
+-- another operand begins after the last
 abbrev pub juxtaposed : Parser → Parser
 juxtaposed p =
     with_pending (with_nodes p (end_sequence p.pending)) (record p.pending { has_then = true; nots = 0; ready = false })
@@ -96,7 +96,7 @@ before_operand p Opening = Some (record p { pending = fresh; outer = p.pending �
 before_operand p Tilde = Some (with_pending p (record p.pending { nots = suc p.pending.nots }))
 before_operand p _ = None
 
--- after a token behind an operand
+-- after a token after an operand
 abbrev pub behind_operand : Parser → Sign → Option Parser
 behind_operand p Asterisk = Some (with_nodes p (Wrap Any ∷ []))
 behind_operand p PlusSign = Some (with_nodes p (Wrap Many ∷ []))

@@ -57,7 +57,7 @@ impl Ere {
 /// Adds the groups of `match` and `fail` to a table whose states stand for these forms.
 fn add_groups(alloc: Global, forms: &[Ere], table: &mut Table) -> Result<(), SpecError>
     requires states { table.old.states ≡ length forms.now }
-    requires few { length forms.now ≤ 1024 }
+    requires bounded { length forms.now ≤ 1024 }
     requires groups { table.old.groups ≡ [] }
     ensures groups { OnOk result (HasGroups forms.now table.old table.new) }
     ensures fault { IfErr result (λ e. e ≡ SpecError.NoMemory) }

@@ -1,4 +1,4 @@
-//! A formula as it is written: its nodes, each behind its operands.
+//! A formula as it is written: its nodes, each after its operands.
 use jm_text::Token;
 
 /// An operand.
@@ -25,7 +25,7 @@ pub enum Binary {
     Both,
 }
 
-/// A node of a formula. An operator stands behind its operands.
+/// A node of a formula. An operator stands after its operands.
 #[derive(Clone, Copy)]
 pub enum Node {
     Push(Atom),

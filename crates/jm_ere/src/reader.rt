@@ -63,7 +63,7 @@ pub struct Pending {
     pub has_either: bool,
     pub has_both: bool,
     pub has_then: bool,
-    /// So many `~`.
+    /// A number of `~`.
     pub nots: usize,
     /// Whether the last operand is there.
     pub ready: bool,
@@ -146,7 +146,7 @@ impl Parser {
         self.push_if(self.pending.has_either, Binary::Either)
     }
 
-    /// Another operand begins behind the last.
+    /// Another operand begins after the last.
     fn juxtapose(&mut self) -> Result<(), SpecError>
         ensures ok { OnOk result (self.new ≡ juxtaposed self.old) }
         ensures err { IfErr result (λ e. e ≡ SpecError.NoMemory) }
@@ -158,7 +158,7 @@ impl Parser {
         Ok(())
     }
 
-    /// A `&` stands behind the last operand.
+    /// A `&` stands after the last operand.
     fn intersect(&mut self) -> Result<(), SpecError>
         ensures ok { OnOk result (behind_operand self.old Sign.Ampersand ≡ Some self.new) }
         ensures err { IfErr result (λ e. e ≡ SpecError.NoMemory) }
@@ -171,7 +171,7 @@ impl Parser {
         Ok(())
     }
 
-    /// A `|` stands behind the last operand.
+    /// A `|` stands after the last operand.
     fn unite(&mut self) -> Result<(), SpecError>
         ensures ok { OnOk result (behind_operand self.old Sign.Bar ≡ Some self.new) }
         ensures err { IfErr result (λ e. e ≡ SpecError.NoMemory) }
@@ -185,7 +185,7 @@ impl Parser {
         Ok(())
     }
 
-    /// A `)` stands behind the last operand. It answers whether a parenthesis was open.
+    /// A `)` stands after the last operand. It answers whether a parenthesis was open.
     fn close(&mut self) -> Result<bool, SpecError>
         ensures ok { IfOk result (λ goes. MatchBool goes (closed self.old.outer self.old ≡ Some self.new)
             (closed self.old.outer self.old ≡ None)) }
@@ -226,7 +226,7 @@ impl Parser {
         }
     }
 
-    /// A token behind an operand. It answers whether the token can stand here.
+    /// A token after an operand. It answers whether the token can stand here.
     fn behind_operand(&mut self, sign: Sign) -> Result<bool, SpecError>
         ensures ok { IfOk result (λ goes. MatchBool goes (behind_operand self.old sign ≡ Some self.new)
             (behind_operand self.old sign ≡ None)) }
@@ -316,7 +316,7 @@ fn syntax(line: u32) -> SpecError
     SpecError::Bad(SpecFault::Syntax { line })
 }
 
-/// Writes so many `~`.
+/// Writes `~` the given number of times.
 fn push_nots(nodes: &mut Items<Node>, count: usize) -> Result<(), SpecError>
     ensures ok { OnOk result (nodes.new ≡ nodes.old ++ complements count) }
     ensures err { IfErr result (λ e. e ≡ SpecError.NoMemory) }

@@ -11,7 +11,7 @@ use jm_model::{Counted, SpecError, SpecFault};
 /// How many nodes a normal form may have.
 const MAX_NODES: u16 = 4096;
 
-/// What is left of the room for so many nodes when a form has taken its own, if it has room.
+/// What is left of a room for nodes when a form has taken its own, if it has room.
 fn room_after(tree: &Tree, room: u16) -> Option<u16>
     ensures enough { IfSome result (λ left. size_of (expression_of tree.now) + left ≡ room) }
     ensures lacking { IfNone result (room < size_of (expression_of tree.now)) }

@@ -23,7 +23,7 @@ hash_few hash (a ∷ b ∷ c ∷ d ∷ e ∷ f ∷ []) few = refl
 hash_few hash (a ∷ b ∷ c ∷ d ∷ e ∷ f ∷ g ∷ []) few = refl
 hash_few hash (a ∷ b ∷ c ∷ d ∷ e ∷ f ∷ g ∷ h ∷ rest) few = absurd (omega arith)
 
--- so many bytes, with zeros behind them
+-- so many bytes, with zeros after them
 pub few_4 : (t : List ℕ) → length t ≡ 4 → from_le_bytes w64 (get_or t 0 0 ∷ get_or t 1 0 ∷ get_or t 2 0 ∷ get_or t 3 0 ∷ 0 ∷ 0 ∷ 0 ∷ 0 ∷ []) ≡ few_bytes t
 few_4 [] is = absurd (omega arith)
 few_4 (a ∷ []) is = absurd (omega arith)

@@ -16,13 +16,13 @@ use Rattle.jm_events.proofs.NameLemmas.{is_same_name, list_any-no_number, no_num
 
 -- ---- parts of a block
 
--- a part that lies before what is put behind the block
+-- a part that lies before what is put after the block
 range_front : (bytes new : List ℕ) (start end : ℕ) → start ≤ end → end ≤ length bytes → slice_range (bytes ++ new) start end ≡ slice_range bytes start end
 range_front bytes new start end le within =
     let few : end - start ≤ length (drop start bytes) = omega (arith, length-drop start bytes) in
     ap (take (end - start)) (drop-append-le start bytes new (omega arith)) ∙ take-append-le (end - start) (drop start bytes) new few
 
--- what is put behind it
+-- what is put after it
 range_end : (bytes new : List ℕ) → slice_range (bytes ++ new) (length bytes) (length bytes + length new) ≡ new
 range_end bytes new =
     ap (take (length bytes + length new - length bytes)) (drop_at bytes new (length bytes) refl) ∙ take_all (length bytes + length new - length bytes) new (omega arith)

@@ -6,7 +6,7 @@ use Rattle.jm_model.specs.Words.{Text}
 unfoldable pub mix : ℕ → ℕ → ℕ
 mix hash bits = ((hash + bits) % 2 ^ 64 * 11400714819323198485) % 2 ^ 64
 
--- fewer than eight bytes as one number, as if zeros stood behind them
+-- fewer than eight bytes as one number, as if zeros stood after them
 abbrev pub few_bytes : Text → ℕ
 few_bytes text = from_le_bytes w64 (take 8 (text ++ replicate 8 0))
 

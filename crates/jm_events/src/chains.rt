@@ -86,7 +86,7 @@ impl Chains {
     #[inline(always)]
     pub(crate) fn reserve(&mut self) -> Result<(), NoMemory>
         requires { length self.old.hashes < 2 ^ 32 - 1 }
-        ensures same { self.new.hashes ≡ self.old.hashes }
+        ensures unchanged { self.new.hashes ≡ self.old.hashes }
         ensures room { OnOk result (length self.new.hashes < self.new.room) }
     {
         self.links.reserve(1)?;
@@ -99,7 +99,7 @@ impl Chains {
     /// Adds a hash at the end, where there is room.
     #[inline(always)]
     pub(crate) fn push_reserved(&mut self, hash: u32)
-        requires few { length self.old.hashes < 2 ^ 32 - 1 }
+        requires bounded { length self.old.hashes < 2 ^ 32 - 1 }
         requires room { length self.old.hashes < self.old.room }
         ensures { self.new.hashes ≡ self.old.hashes ++ hash ∷ [] }
     {
@@ -122,7 +122,7 @@ impl Chains {
 #[inline(never)]
 fn linked(alloc: Global, links: &mut Vec<Link>) -> Result<Vec<u32>, NoMemory>
     requires { length links.old.items < 2 ^ 32 - 1 }
-    ensures same { hashes_of links.new.items ≡ hashes_of links.old.items }
+    ensures unchanged { hashes_of links.new.items ≡ hashes_of links.old.items }
     ensures chains { IfOk result (λ heads. AreChains links.new.items heads.items) }
     ensures more { IfOk result (λ heads. length links.new.items < length heads.items) }
     ensures err { OnErr result (links.new.items ≡ links.old.items) }
@@ -137,10 +137,10 @@ fn linked(alloc: Global, links: &mut Vec<Link>) -> Result<Vec<u32>, NoMemory>
 /// Puts hashes into chains that have none.
 fn enter_all(links: &mut Vec<Link>, heads: &mut Vec<u32>)
     requires fits { length links.old.items < 2 ^ 32 - 1 }
-    requires few { length heads.old.items < 2 ^ 32 }
+    requires bounded { length heads.old.items < 2 ^ 32 }
     requires enough { length links.old.items ≤ length heads.old.items }
     requires empty { heads.old.items ≡ replicate (length heads.old.items) 0 }
-    ensures same { hashes_of links.new.items ≡ hashes_of links.old.items }
+    ensures unchanged { hashes_of links.new.items ≡ hashes_of links.old.items }
     ensures chains { AreChains links.new.items heads.new.items }
     ensures sizes { (vec_len links.new ≡ vec_len links.old) × (vec_len heads.new ≡ vec_len heads.old) }
     ensures room { vec_capacity links.new ≡ vec_capacity links.old }
@@ -167,7 +167,7 @@ fn set_link(links: &mut Vec<Link>, number: usize, link: Link)
 #[inline(always)]
 fn enter(heads: &mut Vec<u32>, number: u32, hash: u32) -> u32
     requires some { 0 < length heads.old.items }
-    requires few { length heads.old.items < 2 ^ 32 }
+    requires bounded { length heads.old.items < 2 ^ 32 }
     requires number { number < 2 ^ 32 - 1 }
     ensures before { result ≡ slice_index heads.old.items (chain_of (length heads.old.items) hash) }
     ensures heads { heads.new.items ≡ slice_set heads.old.items (chain_of (length heads.old.items) hash) (number + 1) }
@@ -180,11 +180,11 @@ fn enter(heads: &mut Vec<u32>, number: u32, hash: u32) -> u32
     before
 }
 
-/// The chain of a hash, of so many.
+/// The chain of a hash, out of the given number of chains.
 #[inline(always)]
 fn chain_of(chains: usize, hash: u32) -> usize
     requires some { 0 < chains }
-    requires few { chains < 2 ^ 32 }
+    requires bounded { chains < 2 ^ 32 }
     ensures value { result ≡ chain_of chains hash }
     ensures within { result < chains }
 {

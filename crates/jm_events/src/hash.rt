@@ -19,7 +19,7 @@ pub fn hash_of(text: &[u8]) -> u32
     (mix(hash, few_bytes(rest)) >> 32) as u32
 }
 
-/// Fewer than eight bytes as one number, as if zeros stood behind them.
+/// Fewer than eight bytes as one number, as if zeros stood after them.
 #[inline(always)]
 fn few_bytes(text: &[u8]) -> u64
     requires { length text.now < 8 }

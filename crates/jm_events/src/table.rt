@@ -222,7 +222,7 @@ impl EventTable {
     /// How many events there are.
     pub fn letters(&self) -> u8
         ensures value { result ≡ length self.now.events }
-        ensures few { result ≤ 32 }
+        ensures bounded { result ≤ 32 }
         ensures distinct { IsDistinct bytes_eq (event_names self.now) }
     {
         self.events.len() as u8
@@ -231,7 +231,7 @@ impl EventTable {
     /// How many parameters there are.
     pub fn params(&self) -> u8
         ensures value { result ≡ length self.now.parameters }
-        ensures few { result ≤ 8 }
+        ensures bounded { result ≤ 8 }
         ensures distinct { IsDistinct bytes_eq self.now.parameters }
     {
         self.params.len() as u8
@@ -262,7 +262,7 @@ impl EventTable {
     /// The parameters of each event, letter by letter.
     pub fn masks(&self, alloc: Global) -> Result<Vec<u8>, NoMemory>
         ensures value { IfOk result (λ masks. masks.items ≡ map (λ e. e.mask) self.now.events) }
-        ensures few { IfOk result (λ masks. length masks.items ≤ 32) }
+        ensures bounded { IfOk result (λ masks. length masks.items ≤ 32) }
         ensures fit { IfOk result (λ masks. All (λ mask. mask < 2 ^ length self.now.parameters) masks.items) }
         ensures bytes { IfOk result (λ masks. All (λ mask. mask < 256) masks.items) }
     {

@@ -68,7 +68,7 @@ fresh before name after h =
 with_name_new : (names : List (List ℕ)) (n : List ℕ) → is_among names n ≡ false → with_name names n ≡ names ++ n ∷ []
 with_name_new names n h = rw h refl
 
--- so one is added behind them
+-- so one is added after them
 pub new_name : (before : List (List ℕ)) (name : List ℕ) (after : List (List ℕ)) → AreDistinct (before ++ name ∷ after) → with_name before name ≡ before ++ name ∷ []
 new_name before name after h = with_name_new before name (fresh before name after h)
 

@@ -26,7 +26,7 @@ listed_at bytes tokens = do
   destination ← name_at bytes arrow
   Some (On event.0 destination.0, destination.1)
 
--- `default` begins a default, if no `->` stands behind it
+-- `default` begins a default, if no `->` stands after it
 abbrev pub begins_fallback : Text → List Token → Bool
 begins_fallback bytes tokens =
     is_word_at bytes tokens 0 (codes "default") && not (is_mark_at bytes tokens 1 (codes "->"))
@@ -74,7 +74,7 @@ alias_at bytes tokens = do
   members ← parted_at (codes ",") name_at begins_more_member bytes inner
   Some (Alias name.0 members.0, members.1)
 
--- `alias` begins an alias, if no `[` stands behind it
+-- `alias` begins an alias, if no `[` stands after it
 abbrev pub begins_alias : Text → List Token → Bool
 begins_alias bytes tokens = is_word_at bytes tokens 0 (codes "alias") && not (is_mark_at bytes tokens 1 (codes "["))
 

@@ -14,14 +14,14 @@ use Rattle.jm_fsm.specs.Faults.{destination_named}
 use Rattle.jm_fsm.specs.Machines.{StateDefinition, AliasDefinition}
 use Rattle.jm_fsm.specs.Meanings.{destination_of}
 
--- the name behind `default`, if it is written
+-- the name after `default`, if it is written
 abbrev pub default_of : List TransitionText → Option Token
 default_of [] = None
 default_of (On event destination ∷ ts) = default_of ts
 default_of (Fallback word destination ∷ ts) = option_or (default_of ts) (Some destination)
 
 module _ (bytes : Text) (events : List Text) where
-  -- the name behind the arrow of the event that has the letter, if it is written
+  -- the name after the arrow of the event that has the letter, if it is written
   abbrev pub arrow_of : List TransitionText → ℕ → Option Token
   arrow_of [] letter = None
   arrow_of (On event destination ∷ ts) letter =
@@ -29,8 +29,8 @@ module _ (bytes : Text) (events : List Text) where
       then Some destination else arrow_of ts letter
   arrow_of (Fallback word destination ∷ ts) letter = arrow_of ts letter
 
--- A state is as it is written: it has this name, and each letter leads to the state whose name is behind the arrow of
--- its event; without an arrow, to the state whose name is behind `default`; and without that, to `fail`.
+-- A state is as it is written: it has this name, and each letter leads to the state whose name is after the arrow of
+-- its event; without an arrow, to the state whose name is after `default`; and without that, to `fail`.
 pub record IsAsWritten (bytes : Text) (events states : List Text) (name : Token) (ts : List TransitionText)
     (s : StateDefinition) : Type 0 where
   pub named : s.name ≡ name_of bytes name

@@ -35,7 +35,7 @@ impl Fsm {
         requires categories { categories ≡ category_count self.now }
         requires room { categories < 65535 }
         requires states { table.old.states ≡ length nodes.now }
-        requires few { length nodes.now ≤ 1024 }
+        requires bounded { length nodes.now ≤ 1024 }
         requires groups { table.old.groups ≡ [] }
         ensures groups { OnOk result (HasGroups self.now nodes.now (category_count self.now) table.old table.new) }
         ensures fault { IfErr result (λ e. e ≡ SpecError.NoMemory) }

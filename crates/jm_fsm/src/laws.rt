@@ -23,7 +23,7 @@ pub fn one_reading()
 {}
 
 /// A machine that was read is as it is written: its states are those that the formula declares, in order, and each
-/// letter leads from a state to the one whose name is behind the arrow of its event, else behind `default`, else to
+/// letter leads from a state to the one whose name is after the arrow of its event, else after `default`, else to
 /// `fail`.
 pub fn states_as_written()
     ensures { (bytes : List ℕ) (tokens : List Token) (table : EventDefinitions) (m : StateMachine)

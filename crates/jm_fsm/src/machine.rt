@@ -227,7 +227,7 @@ impl Fsm {
     pub fn categories(&self, alloc: Global) -> Result<Names, NoMemory>
         ensures value { IfOk result (λ names. names ≡ category_names self.now) }
         ensures count { IfOk result (λ names. length names ≡ category_count self.now) }
-        ensures few { IfOk result (λ names. length names ≤ 1280) }
+        ensures bounded { IfOk result (λ names. length names ≤ 1280) }
     {
         let mut names = Names::new(alloc);
         add_names(&mut names, self.states.as_slice())?;

@@ -6,7 +6,7 @@ use Rattle.jm_model.specs.Words.{Text}
 abbrev pub IsInRange : ℕ → Type 0
 IsInRange n = (1 ≤ n) × (n ≤ 8000)
 
--- the name of an object of a script's round, behind the letter of its kind
+-- the name of an object of a script's round, after the letter of its kind
 unfoldable pub object : Text → ℕ → ℕ → Text
 object kind script round = kind ++ decimal script ++ codes "_" ++ decimal round
 

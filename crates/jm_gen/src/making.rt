@@ -29,7 +29,7 @@ pub fn workload(alloc: Global, n: u32) -> Result<Workload, GenError>
     Ok(files(alloc, n)?)
 }
 
-/// The two specifications, and the four scripts, each of so many rounds.
+/// The two specifications, and the four scripts, each of the given number of rounds.
 fn files(alloc: Global, n: u32) -> Result<Workload, AllocError>
     requires { n ≤ 8000 }
     ensures specs { IfOk result (λ files. map (λ text. text.items) files.specs.items ≡ unsafe_iter ∷ has_next ∷ []) }

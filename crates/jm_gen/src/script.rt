@@ -32,7 +32,7 @@ fn add_round(alloc: Global, text: &mut String, number: u32, round: u32) -> Resul
     add_passes(text, round)
 }
 
-/// The name of an object of a round, behind the letter of its kind.
+/// The name of an object of a round, after the letter of its kind.
 #[tactic(auto, unfolding(crate::specs::Scripts::object))]
 fn object(alloc: Global, kind: &str, number: u32, round: u32) -> Result<String, AllocError>
     ensures { IfOk result (λ text. string_bytes text ≡ object kind.now number round) }
@@ -80,7 +80,7 @@ fn add_create(text: &mut String, collection: &str, iterator: &str) -> Result<(),
     Ok(())
 }
 
-/// Adds a step on an object, behind the step's words.
+/// Adds a step on an object, after the step's words.
 #[tactic(auto, unfolding(crate::specs::Scripts::step_line))]
 fn add_step(text: &mut String, words: &str, object: &str) -> Result<(), AllocError>
     ensures { OnOk result (string_bytes text.new ≡ string_bytes text.old ++ step_line words.now object.now) }

@@ -34,8 +34,8 @@ impl Goal {
     /// The goal of these handlers: handler k has group `groups[k]`, and resets its property where bit k of `resets` is
     /// set. None does where a reported instance has to bind something.
     pub fn new(groups: Vec<u16>, creation: u32, must_bind: u8, resets: u16) -> Goal
-        requires few { vec_len groups ≤ 16 }
-        requires there { resets < 2 ^ vec_len groups }
+        requires bounded { vec_len groups ≤ 16 }
+        requires in_range { resets < 2 ^ vec_len groups }
         requires apart { (resets ≡ 0) ⊎ (must_bind ≡ 0) }
         ensures { result ≡ record {
           groups = groups.items;
@@ -55,7 +55,7 @@ impl Goal {
     /// How many handlers there are, at most 16.
     pub fn handlers(&self) -> u8
         ensures value { result ≡ length self.now.groups }
-        ensures few { result ≤ 16 }
+        ensures bounded { result ≤ 16 }
     {
         self.groups.len() as u8
     }

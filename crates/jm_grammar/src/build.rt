@@ -151,7 +151,7 @@ fn known_grammar(
 ) -> Result<Grammar, SpecError>
     requires events { length table.now.events ≤ 32 }
     requires known { known.now ≡ nonterminals bytes.now parts.now }
-    requires few { length known.now ≤ 64 }
+    requires bounded { length known.now ≤ 64 }
     requires productions { productions_fault parts.now ≡ None }
     requires symbols { symbols_fault bytes.now parts.now ≡ None }
     ensures { Answers result (grammar_of bytes.now table.now parts.now) }

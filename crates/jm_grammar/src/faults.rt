@@ -55,7 +55,7 @@ pub fn check_nonterminals(
 ) -> Result<(), SpecError>
     requires { known.now ≡ nonterminals bytes.now parts.now }
     ensures checked { Checks result (nonterminals_fault bytes.now suffix parts.now) }
-    ensures few { IfOk result (λ _. length known.now ≤ 64) }
+    ensures bounded { IfOk result (λ _. length known.now ≤ 64) }
 {
     if known.len() > most_nonterminals(suffix) {
         let what = Counted::Nonterminals;

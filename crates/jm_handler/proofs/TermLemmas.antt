@@ -36,7 +36,7 @@ goes_on-next bytes ps tokens start now next plus t ts x h mark is added = record
   complete = λ all said. let (whole, (term, more, e, m, i, are)) = h.complete all said in (more, are);
 }
 
--- the rest doesn't begin with a `+`, or no term is behind it
+-- the rest doesn't begin with a `+`, or no term is after it
 pub not_marked : (bytes : List ℕ) (ps : List (List ℕ)) (tokens : List Token) (start now : List Term) (plus t : Token) (ts : List Token)
     → GoesOn bytes ps tokens start (plus ∷ t ∷ ts) now → is_mark bytes plus (codes "+") ≡ false → (all : List Term) → AreMoreTerms bytes ps tokens all → ⊥
 not_marked bytes ps tokens start now plus t ts h isnt all said = let (whole, (term, more, e, m, i, are)) = h.complete all said in cc

@@ -8,6 +8,6 @@ use Rattle.jm_text.specs.Pieces.{line_feed}
 abbrev pub broken_byte : ℕ → Text
 broken_byte b = if b == line_feed then codes "\n  > " else b ∷ []
 
--- a text behind the beginning of its first line
+-- a text after the beginning of its first line
 abbrev pub broken : Text → Text
 broken text = flat_map broken_byte text

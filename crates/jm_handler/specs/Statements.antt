@@ -11,11 +11,11 @@ opens bytes t = is_mark bytes t (codes "(") || is_mark bytes t (codes "[") || is
 abbrev pub closes : Text → Token → Bool
 closes bytes t = is_mark bytes t (codes ")") || is_mark bytes t (codes "]") || is_mark bytes t (codes "}")
 
--- how many brackets are open behind a token, where so many are open before it; where none is, none is closed
+-- how many brackets are open after a token, where so many are open before it; where none is, none is closed
 abbrev pub depth_behind : Text → ℕ → Token → ℕ
 depth_behind bytes depth t = if opens bytes t then depth + 1 else if closes bytes t then depth - 1 else depth
 
--- how many are open behind a run
+-- how many are open after a run
 abbrev pub depth_of : Text → List Token → ℕ
 depth_of bytes run = fold (depth_behind bytes) 0 run
 

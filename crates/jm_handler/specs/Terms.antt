@@ -36,7 +36,7 @@ escaped b =
     else if b == backslash then Some b
     else None
 
--- a byte, and what is behind it: where it is a backslash that begins an escape, the escape's byte stands for the two
+-- a byte, and what is after it: where it is a backslash that begins an escape, the escape's byte stands for the two
 abbrev pub led_by : Option ℕ → ℕ → List ℕ → List ℕ → List ℕ
 led_by (Some e) b behind_two behind_one = e ∷ behind_two
 led_by None b behind_two behind_one = b ∷ behind_one
@@ -60,7 +60,7 @@ term_of bytes parameters token =
     else if is_word bytes token (codes "__LOC") then Some Place
     else parameter_of bytes parameters token
 
--- the terms behind a term, each with a `+` before it
+-- the terms after a term, each with a `+` before it
 abbrev pub AreMoreTerms : List ℕ → List (List ℕ) → List Token → List Term → Type 0
 AreMoreTerms bytes parameters [] terms = terms ≡ []
 AreMoreTerms bytes parameters (plus ∷ []) terms = ⊥

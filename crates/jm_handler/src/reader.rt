@@ -125,7 +125,7 @@ fn all_terms(
     more_terms(alloc, bytes, &tokens[1..], table, terms)
 }
 
-/// Adds the terms behind a term, if the tokens say such.
+/// Adds the terms after a term, if the tokens say such.
 fn more_terms(
     alloc: Global,
     bytes: &[u8],

@@ -33,7 +33,7 @@ impl<'a> Model for Occasion<'a> {
 
 impl Handler {
     /// The text of the handler where it runs for an instance, at an event on this line of this caller: that of each
-    /// statement in order, cut at its line breaks, each piece on a line of its own behind two spaces, `>` and a space.
+    /// statement in order, cut at its line breaks, each piece on a line of its own after two spaces, `>` and a space.
     /// A parameter that the instance doesn't bind is `null`. Each object that is bound has its name.
     pub fn render(
         &self,

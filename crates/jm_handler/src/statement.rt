@@ -21,10 +21,10 @@ pub(crate) fn statement_length(bytes: &[u8], tokens: &[Token]) -> usize
     tokens.len()
 }
 
-/// How many brackets are open behind a token.
+/// How many brackets are open after a token.
 fn depth_behind(bytes: &[u8], depth: usize, token: Token) -> usize
     requires within { LiesWithin bytes.now token }
-    requires few { depth < 2 ^ 64 - 1 }
+    requires bounded { depth < 2 ^ 64 - 1 }
     ensures { result ≡ depth_behind bytes.now depth token }
 {
     if opens(bytes, token) {
@@ -50,7 +50,7 @@ fn closes(bytes: &[u8], token: Token) -> bool
     is_mark(bytes, token, b")") || is_mark(bytes, token, b"]") || is_mark(bytes, token, b"}")
 }
 
-/// Whether a statement ends with the token, behind which so many brackets are open.
+/// Whether a statement ends with the token, after which this number of brackets is open.
 fn ends(bytes: &[u8], depth: usize, token: Token) -> bool
     requires { LiesWithin bytes.now token }
     ensures { result ≡ (depth == 0 && may_end bytes.now token) }

@@ -6,7 +6,7 @@ use Rattle.jm_model.specs.Bindings.{objects_of, mask_of}
 use Rattle.jm_model.specs.Layout.{by_lowest_bit}
 use Rattle.jm_history.specs.Rows.{placed_in}
 
--- what a binding's mask and objects place is the binding, whatever lies behind the objects
+-- what a binding's mask and objects place is the binding, whatever lies after the objects
 pub placed_back : (b : List (Option ℕ)) (more : List ℕ) → placed_in (length b) (mask_of b) (objects_of b ++ more) ≡ b
 unfolding placed_in
 placed_back [] more = refl
@@ -23,7 +23,7 @@ placed_back (Some o ∷ b) more =
     (λ i. cond (set i) (Some o ∷ placed_in (length b) (half i) (objects_of b ++ more)) (None ∷ placed_in (length b) ((1 + 2 * mask_of b) / 2) (o ∷ objects_of b ++ more)))
     ∙ ap (λ l. Some o ∷ l) (placed_back b more)
 
--- it doesn't depend on what lies behind the objects, if there are enough
+-- it doesn't depend on what lies after the objects, if there are enough
 pub placed_more : (n mask : ℕ) (os more : List ℕ) → count_ones mask ≤ length os → placed_in n mask (os ++ more) ≡ placed_in n mask os
 unfolding placed_in
 placed_more zero mask os more enough = refl

@@ -1,4 +1,4 @@
--- What stands in a row stays as it is when more is put behind its objects and its outcomes.
+-- What stands in a row stays as it is when more is put after its objects and its outcomes.
 use Rattle.std.proofs.Common.{◌≡◌, ℕ, zero, suc, ◌+◌, ◌*◌, ◌/◌, ◌%◌, ◌<◌, ◌≤◌, List, [], ◌∷◌, ◌++◌, length, map, drop, All, Option, Some, None, refl, sym, ◌∙◌, ap, subst, arith, append-nil, length-append, length-drop}
 use Rattle.std.specs.Prelude.{count_ones}
 use Rattle.std.specs.Int.Count.{ones_step}
@@ -18,7 +18,7 @@ use Rattle.jm_history.specs.declared.row.ShortStep.TheVariants.{Event as ShortEv
 use Rattle.jm_history.specs.Rows.{placed, placed_in, step_of, outcome_at, entry_in, entries_in, short_of, objects_in, IsOfEight, IsShared, Grown, FitsStep, FitsIn}
 use Rattle.jm_history.proofs.PlacedLemmas.{placed_back, placed_more}
 
--- ---- more behind
+-- ---- more after
 step_of-more : (os more : List ℕ) (s : ShortStep) → FitsStep (length os) s → step_of (os ++ more) s ≡ step_of os s
 step_of-more os more (ShortEvent letter mask start) fits =
     let behind = drop-append-le start os more (omega (arith, fits)) in

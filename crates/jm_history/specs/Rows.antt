@@ -1,4 +1,4 @@
--- How entries lie in a row: a short form of each, the objects of their events one behind the other, and the outcomes
+-- How entries lie in a row: a short form of each, the objects of their events one after the other, and the outcomes
 -- that are not shared.
 use Rattle.std.specs.Prelude.{◌≡◌, ℕ, zero, suc, ◌+◌, ◌*◌, ◌/◌, ◌%◌, ◌<◌, ◌≤◌, ◌==◌, cond, List, [], ◌∷◌, ◌++◌, length, map, drop, Option, Some, None, slice_get, slice_index_or, count_ones, All, vec_len, vec_capacity}
 use Rattle.std.specs.Global.{Vec}
@@ -60,7 +60,7 @@ short_of start (Event letter binding) = ShortEvent letter (mask_of binding) star
 short_of start (Death object) = ShortDeath object
 short_of start Pass = ShortPass
 
--- the objects that are put behind the others for a step
+-- the objects that are put after the others for a step
 abbrev pub objects_in : Step → List ℕ
 objects_in (Event letter binding) = objects_of binding
 objects_in (Death object) = []
@@ -76,7 +76,7 @@ IsOfEight Pass = Unit {0}
 abbrev pub IsShared : List Outcome → Type 0
 IsShared xs = (1 < length xs) × (outcome_at xs 0 ≡ Fired []) × (outcome_at xs 1 ≡ Done)
 
--- some are put behind the others
+-- some are put after the others
 abbrev pub Grown : {A : Type 0} → List A → List A → Type 0
 Grown {A} old new = (more : List A) × (new ≡ old ++ more)
 

@@ -54,7 +54,7 @@ impl Chain {
         self.begin_row(alloc, entries);
     }
 
-    /// Begins a row with room for so many entries, if there is memory.
+    /// Begins a row with room for the given number of entries, if there is memory.
     #[inline(never)]
     fn begin_row(&mut self, alloc: Global, entries: usize)
         ensures { newest_first self.new ≡ newest_first self.old }

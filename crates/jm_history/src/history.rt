@@ -59,7 +59,7 @@ impl History {
         line: u32,
         step: Step,
     ) -> Result<Node, NoMemory>
-        ensures same { self.new ≡ self.old }
+        ensures unchanged { self.new ≡ self.old }
         ensures node { IfOk result (λ node. node ≡ record { caller = caller; line = line; step = step }) }
     {
         match self.spare.take() {

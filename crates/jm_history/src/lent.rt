@@ -7,7 +7,7 @@ use jm_model::{Entry, Letter, NoMemory, Outcome, Step};
 use std::marker::Model;
 
 /// An event of a row, of which the objects and the outcome are lent and not copied: who made it, at which line of its
-/// script, and its letter, with the set of its parameters and their objects, one behind the other. Objects of later
+/// script, and its letter, with the set of its parameters and their objects, one after the other. Objects of later
 /// events may follow.
 #[derive(Clone, Copy)]
 pub struct LentEvent<'a> {

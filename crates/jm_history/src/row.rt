@@ -15,7 +15,7 @@ const MOST: usize = 8;
 /// Places in a row are below this.
 const PLACES: usize = 0xffff;
 
-/// For so many objects, and for so many outcomes, a row makes room at once.
+/// The numbers of objects and of outcomes for which a row makes room at once.
 const OBJECTS: usize = 64;
 
 const OUTCOMES: usize = 16;
@@ -43,7 +43,7 @@ pub(crate) enum ShortStep {
     Pass,
 }
 
-/// Entries, the oldest first. The objects of their events lie one behind the other. The first two outcomes are those
+/// Entries, the oldest first. The objects of their events lie one after the other. The first two outcomes are those
 /// that most entries have: that no handler ran, and that of a death. There is room for `room` entries more of any kind.
 #[derive(Drop)]
 pub(crate) struct Row {
@@ -66,7 +66,7 @@ impl Model for Row {
 }
 
 impl Row {
-    /// A row without entries, which is full when it has so many.
+    /// A row without entries, which is full when it has the given number.
     pub(crate) fn new(alloc: Global, entries: usize) -> Result<Row, NoMemory>
         ensures { IfOk result (λ row. row ≡ []) }
     {
@@ -198,7 +198,7 @@ fn room(shorts: &Vec<Short>, objects: &Vec<u32>, outcomes: &Vec<Outcome>) -> usi
         )
 }
 
-/// Makes room for so many more, or for as many as are wanted then, if there is memory.
+/// Makes room for the given number more, or for as many as are wanted then, if there is memory.
 fn make_room<T>(items: &mut Vec<T>, least: usize, more: usize)
     ensures { items.new.items ≡ items.old.items }
 {
@@ -207,7 +207,7 @@ fn make_room<T>(items: &mut Vec<T>, least: usize, more: usize)
     }
 }
 
-/// The step without its objects, which are put behind the others.
+/// The step without its objects, which are put after the others.
 #[inline(always)]
 fn shortened(objects: &mut Vec<u32>, step: &Step) -> ShortStep
     requires room { vec_len objects.old + 8 ≤ vec_capacity objects.old }
@@ -234,7 +234,7 @@ fn shortened(objects: &mut Vec<u32>, step: &Step) -> ShortStep
     }
 }
 
-/// Puts the objects of a binding of this mask behind the others.
+/// Puts the objects of a binding of this mask after the others.
 #[inline(always)]
 fn add_objects(objects: &mut Vec<u32>, mask: u8, binding: &Binding)
     requires mask { mask_of binding.now ≡ mask }
@@ -255,7 +255,7 @@ fn add_objects(objects: &mut Vec<u32>, mask: u8, binding: &Binding)
     }
 }
 
-/// The place of an outcome, which is put behind the others where it isn't one that entries share.
+/// The place of an outcome, which is put after the others where it isn't one that entries share.
 #[inline(always)]
 fn kept(outcomes: &mut Vec<Outcome>, outcome: Outcome) -> u16
     requires room { vec_len outcomes.old < vec_capacity outcomes.old }
@@ -280,7 +280,7 @@ fn kept(outcomes: &mut Vec<Outcome>, outcome: Outcome) -> u16
     }
 }
 
-/// Puts an outcome behind the others. It answers its place.
+/// Puts an outcome after the others. It answers its place.
 fn added(outcomes: &mut Vec<Outcome>, outcome: Outcome) -> u16
     requires room { vec_len outcomes.old < vec_capacity outcomes.old }
     requires places { vec_len outcomes.old < 65536 }

@@ -143,7 +143,7 @@ pub(crate) fn add_live_slots(
 /// Adds the slot of the entry at a position, if it is live. It takes no memory.
 fn add_live_slot(entries: &[Entry], position: usize, slots: &mut Vec<usize>) -> Result<(), NoRoom>
     ensures kept { OnOk result ((k : ℕ) → Contains slots.old.items k → Contains slots.new.items k) }
-    ensures here { OnOk result ((pair : Pair) → pair_at entries.now position ≡ Some pair
+    ensures at_key { OnOk result ((pair : Pair) → pair_at entries.now position ≡ Some pair
         → Contains slots.new.items pair.slot) }
     ensures room { vec_capacity slots.new ≡ vec_capacity slots.old }
     ensures full { OnErr result (length slots.new.items ≡ vec_capacity slots.new) }

@@ -92,9 +92,9 @@ impl Flags {
 
     /// Makes flags for the objects of a binding, where there are none.
     pub(crate) fn cover(&mut self, binding: &Binding) -> Result<(), NoMemory>
-        ensures same { (o : ℕ) → flag_of self.new o ≡ flag_of self.old o }
+        ensures unchanged { (o : ℕ) → flag_of self.new o ≡ flag_of self.old o }
         ensures longer { length self.old ≤ length self.new }
-        ensures there { OnOk result (AreBelow (length self.new) binding.now) }
+        ensures in_range { OnOk result (AreBelow (length self.new) binding.now) }
     {
         let mut from = 0;
         while let Some(bound) = bound_from(binding, from) {
@@ -105,9 +105,9 @@ impl Flags {
     }
 
     fn cover_object(&mut self, object: u32) -> Result<(), NoMemory>
-        ensures same { (o : ℕ) → flag_of self.new o ≡ flag_of self.old o }
+        ensures unchanged { (o : ℕ) → flag_of self.new o ≡ flag_of self.old o }
         ensures longer { length self.old ≤ length self.new }
-        ensures there { OnOk result (object < length self.new) }
+        ensures in_range { OnOk result (object < length self.new) }
     {
         while !self.has(object) {
             self.lengthen()?;
@@ -117,7 +117,7 @@ impl Flags {
 
     /// Makes 64 flags more.
     fn lengthen(&mut self) -> Result<(), NoMemory>
-        ensures same { (o : ℕ) → flag_of self.new o ≡ flag_of self.old o }
+        ensures unchanged { (o : ℕ) → flag_of self.new o ≡ flag_of self.old o }
         ensures longer { length self.old ≤ length self.new }
         ensures more { OnOk result (length self.old < length self.new) }
     {

@@ -25,7 +25,7 @@ pub(crate) struct Whole {
 
 /// The form of a binding and its slot.
 pub(crate) fn form_of(alloc: Global, binding: &Binding, slot: usize) -> Result<Form, NoMemory>
-    ensures same { IfOk result (λ form. binding_in form ≡ binding.now) }
+    ensures packed { IfOk result (λ form. binding_in form ≡ binding.now) }
     ensures slot { IfOk result (λ form. slot_in form ≡ slot) }
     ensures kept { IfOk result (λ form. is_kept form ≡ true) }
     ensures sound { IfOk result IsForm }
@@ -44,7 +44,7 @@ pub(crate) fn form_of(alloc: Global, binding: &Binding, slot: usize) -> Result<F
 
 /// The form of a binding of one or two parameters, and a slot of four bytes.
 fn short_form(binding: &Binding, slot: u32) -> Option<Form>
-    ensures same { IfSome result (λ form. binding_in form ≡ binding.now) }
+    ensures packed { IfSome result (λ form. binding_in form ≡ binding.now) }
     ensures slot { IfSome result (λ form. slot_in form ≡ slot) }
     ensures kept { IfSome result (λ form. is_kept form ≡ true) }
     ensures sound { IfSome result IsForm }

@@ -4,10 +4,10 @@ ghost use Rattle.std.specs.Vec.{vec_capacity};
 
 use jm_model::NoMemory;
 
-/// Makes room for so many more elements. A short list doubles its room, and a long one takes a quarter more, so that
-/// little of its memory lies unused.
+/// Makes room for more elements, a given number. A short list doubles its room, and a long one takes a quarter more, so
+/// that little of its memory lies unused.
 pub(crate) fn grow<T>(list: &mut Vec<T>, more: usize) -> Result<(), NoMemory>
-    ensures same { list.new.items ≡ list.old.items }
+    ensures unchanged { list.new.items ≡ list.old.items }
     ensures room { OnOk result (vec_len list.new + more ≤ vec_capacity list.new) }
 {
     let len = list.len();

@@ -76,7 +76,7 @@ impl Index {
     pub fn add(&mut self, binding: Binding, slot: usize) -> Result<(), NoMemory>
         requires { (pair : Pair) → Contains self.old.list pair → pair.binding ≢ binding }
         ensures added { OnOk result (self.new.list ≡ self.old.list ++ record { binding = binding; slot = slot } ∷ []) }
-        ensures same { OnErr result (self.new.list ≡ self.old.list) }
+        ensures unchanged { OnErr result (self.new.list ≡ self.old.list) }
         ensures dropped { (o : ℕ) → flag_of self.new.dropped o ≡ flag_of self.old.dropped o }
         ensures fits { (dead : List Bool) → IsFitting self.old dead → AreBelow (length dead) binding
             → IsFitting self.new dead }
@@ -89,7 +89,7 @@ impl Index {
     fn make_room(&mut self) -> Result<(), NoMemory>
         ensures list { self.new.list ≡ self.old.list }
         ensures dropped { (o : ℕ) → flag_of self.new.dropped o ≡ flag_of self.old.dropped o }
-        ensures same { OnErr result (self.new ≡ self.old) }
+        ensures unchanged { OnErr result (self.new ≡ self.old) }
     {
         if self.is_sparse() {
             return self.rebuild();
@@ -102,7 +102,7 @@ impl Index {
     fn rebuild(&mut self) -> Result<(), NoMemory>
         ensures list { self.new.list ≡ self.old.list }
         ensures dropped { (o : ℕ) → flag_of self.new.dropped o ≡ flag_of self.old.dropped o }
-        ensures same { OnErr result (self.new ≡ self.old) }
+        ensures unchanged { OnErr result (self.new ≡ self.old) }
     {
         *self = self.rebuilt()?;
         Ok(())
@@ -150,7 +150,7 @@ impl Index {
     fn append(&mut self, binding: Binding, slot: usize) -> Result<(), NoMemory>
         requires { (pair : Pair) → Contains self.old.list pair → pair.binding ≢ binding }
         ensures added { OnOk result (self.new.list ≡ self.old.list ++ record { binding = binding; slot = slot } ∷ []) }
-        ensures same { OnErr result (self.new.list ≡ self.old.list) }
+        ensures unchanged { OnErr result (self.new.list ≡ self.old.list) }
         ensures dropped { (o : ℕ) → flag_of self.new.dropped o ≡ flag_of self.old.dropped o }
         ensures keyed { IsKeyed self.new }
     {

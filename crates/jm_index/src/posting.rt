@@ -66,7 +66,7 @@ impl Posting {
     pub(crate) fn file(&mut self, position: usize) -> Result<(), NoMemory>
         requires { (x : ℕ) → Contains self.old.positions x → x ≤ position }
         ensures filed { IsFiled position self.old.positions self.new.positions }
-        ensures there { OnOk result (Contains self.new.positions position) }
+        ensures present { OnOk result (Contains self.new.positions position) }
         ensures owner { self.new.owner ≡ self.old.owner }
     {
         if is_last(self.positions.as_slice(), position) {

@@ -41,8 +41,8 @@ impl Row {
 
     /// Makes a place for an object, where there is none.
     fn cover(&mut self, object: u32) -> Result<(), NoMemory>
-        ensures same { (o : ℕ) → slice_index self.new o ≡ slice_index self.old o }
-        ensures there { OnOk result (object < length self.new) }
+        ensures unchanged { (o : ℕ) → slice_index self.new o ≡ slice_index self.old o }
+        ensures in_range { OnOk result (object < length self.new) }
     {
         let len = self.tags.len();
         let object = object as usize;
@@ -100,8 +100,8 @@ impl Rows {
 
     /// Makes a row, where there is none.
     fn cover(&mut self, mask: u8) -> Result<(), NoMemory>
-        ensures same { (m o : ℕ) → tag_at self.new m o ≡ tag_at self.old m o }
-        ensures there { OnOk result (mask < length self.new) }
+        ensures unchanged { (m o : ℕ) → tag_at self.new m o ≡ tag_at self.old m o }
+        ensures in_range { OnOk result (mask < length self.new) }
     {
         let alloc = *self.rows.allocator();
         while self.rows.len() <= mask as usize {
@@ -112,9 +112,9 @@ impl Rows {
 
     /// Makes a place for an object in a row, where there is none.
     fn cover_object(&mut self, mask: u8, object: u32) -> Result<(), NoMemory>
-        ensures same { (m o : ℕ) → tag_at self.new m o ≡ tag_at self.old m o }
+        ensures unchanged { (m o : ℕ) → tag_at self.new m o ≡ tag_at self.old m o }
         ensures row { OnOk result (mask < length self.new) }
-        ensures there { OnOk result (object < length (slice_index_or self.new mask [])) }
+        ensures in_range { OnOk result (object < length (slice_index_or self.new mask [])) }
     {
         self.cover(mask)?;
         let row = &mut self.rows[mask as usize];
@@ -123,7 +123,7 @@ impl Rows {
 
     /// Sets the tag of an object.
     pub(crate) fn set(&mut self, mask: u8, object: u32, tag: u32) -> Result<(), NoMemory>
-        ensures here { OnOk result (tag_at self.new mask object ≡ tag) }
+        ensures at_key { OnOk result (tag_at self.new mask object ≡ tag) }
         ensures elsewhere { (m o : ℕ) → (m ≡ mask → o ≡ object → ⊥) → tag_at self.new m o ≡ tag_at self.old m o }
         ensures err { OnErr result ((m o : ℕ) → tag_at self.new m o ≡ tag_at self.old m o) }
     {
@@ -135,7 +135,7 @@ impl Rows {
 
     /// Takes the tag of an object out.
     pub(crate) fn clear(&mut self, mask: u8, object: u32)
-        ensures here { tag_at self.new mask object ≡ 0 }
+        ensures at_key { tag_at self.new mask object ≡ 0 }
         ensures elsewhere { (m o : ℕ) → (m ≡ mask → o ≡ object → ⊥) → tag_at self.new m o ≡ tag_at self.old m o }
     {
         if (mask as usize) < self.rows.len() {

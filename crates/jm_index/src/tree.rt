@@ -117,9 +117,9 @@ impl Tree {
     /// Makes a path, where there is none.
     fn cover(&mut self, path: usize) -> Result<(), NoMemory>
         requires { path ≤ 2 ^ 32 }
-        ensures same { (q : ℕ) → leaf_of self.new q ≡ leaf_of self.old q }
+        ensures unchanged { (q : ℕ) → leaf_of self.new q ≡ leaf_of self.old q }
         ensures postings { self.new.postings ≡ self.old.postings }
-        ensures there { OnOk result (path < length self.new.leaves) }
+        ensures in_range { OnOk result (path < length self.new.leaves) }
     {
         let len = self.leaves.len();
         if len <= path {
@@ -136,7 +136,7 @@ impl Tree {
         requires last { (x : ℕ) → Contains (posting_of self.old path) x → x ≤ position }
         requires short { path ≤ 2 ^ 32 }
         ensures filed { IsFiled position (posting_of self.old path) (posting_of self.new path) }
-        ensures there { OnOk result (Contains (posting_of self.new path) position) }
+        ensures present { OnOk result (Contains (posting_of self.new path) position) }
         ensures others { (q : ℕ) → (q ≡ path → ⊥) → posting_of self.new q ≡ posting_of self.old q }
     {
         self.cover(path)?;
@@ -171,7 +171,7 @@ impl Tree {
         requires one { posting_of self.old path ≡ first ∷ [] }
         requires last { first ≤ position }
         ensures filed { IsFiled position (posting_of self.old path) (posting_of self.new path) }
-        ensures there { OnOk result (Contains (posting_of self.new path) position) }
+        ensures present { OnOk result (Contains (posting_of self.new path) position) }
         ensures others { (q : ℕ) → (q ≡ path → ⊥) → posting_of self.new q ≡ posting_of self.old q }
     {
         if first == position {
@@ -186,7 +186,7 @@ impl Tree {
         requires owned { IsOwned self.old path number }
         requires last { (x : ℕ) → Contains (posting_of self.old path) x → x ≤ position }
         ensures filed { IsFiled position (posting_of self.old path) (posting_of self.new path) }
-        ensures there { OnOk result (Contains (posting_of self.new path) position) }
+        ensures present { OnOk result (Contains (posting_of self.new path) position) }
         ensures others { (q : ℕ) → (q ≡ path → ⊥) → posting_of self.new q ≡ posting_of self.old q }
     {
         let posting = &mut self.postings[number as usize];
@@ -210,7 +210,7 @@ impl Tree {
     /// than numbers of four bytes are more than memory holds.
     fn keep(&mut self, posting: Posting) -> Result<u32, NoMemory>
         ensures leaves { self.new.leaves ≡ self.old.leaves }
-        ensures here { IfOk result (λ number. posting_by self.new.postings number ≡ posting) }
+        ensures at_key { IfOk result (λ number. posting_by self.new.postings number ≡ posting) }
         ensures others { (q i : ℕ) → (q ≡ posting.owner → ⊥)
             → owned_at self.new.postings q i ≡ owned_at self.old.postings q i }
         ensures err { OnErr result (self.new.postings ≡ self.old.postings) }

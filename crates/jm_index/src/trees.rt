@@ -41,8 +41,8 @@ impl Trees {
 
     /// Makes a tree, where there is none.
     fn cover(&mut self, mask: u8) -> Result<(), NoMemory>
-        ensures same { (m q : ℕ) → posting_at self.new m q ≡ posting_at self.old m q }
-        ensures there { OnOk result (mask < length self.new) }
+        ensures unchanged { (m q : ℕ) → posting_at self.new m q ≡ posting_at self.old m q }
+        ensures in_range { OnOk result (mask < length self.new) }
     {
         let alloc = *self.trees.allocator();
         while self.trees.len() <= mask as usize {
@@ -57,7 +57,7 @@ impl Trees {
         requires last { (x : ℕ) → Contains (posting_at self.old mask path) x → x ≤ position }
         requires short { path ≤ 2 ^ 32 }
         ensures filed { IsFiled position (posting_at self.old mask path) (posting_at self.new mask path) }
-        ensures there { OnOk result (Contains (posting_at self.new mask path) position) }
+        ensures present { OnOk result (Contains (posting_at self.new mask path) position) }
         ensures others { (q : ℕ) → (q ≡ path → ⊥) → posting_at self.new mask q ≡ posting_at self.old mask q }
         ensures other_trees { (m q : ℕ) → (m ≡ mask → ⊥) → posting_at self.new m q ≡ posting_at self.old m q }
     {
@@ -77,7 +77,7 @@ impl Trees {
         requires last { AllFiled (λ x. x ≤ position) self.old }
         requires flagged { object < length dropped.now }
         ensures filed { AreFiled dropped.now position self.old self.new }
-        ensures there { OnOk result (flag_of dropped.now object ≡ false
+        ensures present { OnOk result (flag_of dropped.now object ≡ false
             → Contains (posting_at self.new mask (object + 1)) position) }
     {
         if dropped.is_set(object) {
@@ -96,7 +96,7 @@ impl Trees {
         requires last { AllFiled (λ x. x ≤ position) self.old }
         requires flagged { AreBelow (length dropped.now) binding.now }
         ensures filed { AreFiled dropped.now position self.old self.new }
-        ensures there { OnOk result ((path : ℕ) → IsPath dropped.now binding.now path
+        ensures present { OnOk result ((path : ℕ) → IsPath dropped.now binding.now path
             → Contains (posting_at self.new (mask_of binding.now) path) position) }
     {
         let mask = binding.mask();

@@ -19,7 +19,7 @@ module _ (bytes : List ℕ) (tokens : List Token) (ps : List (List ℕ)) where
   one_more (x ∷ hs) h texts text (first, more, e, said, rest) says =
       (first, more ++ text ∷ [], ap (λ (v : List (List (List Term))). v ++ text ∷ []) e, said, one_more hs h more text rest says)
 
-  -- a block more, at a place of the handlers, which stand behind others
+  -- a block more, at a place of the handlers, which stand after others
   pub BlocksSay-more : (before hs : List HandlerText) (i : ℕ) (d : HandlerText) (texts new : List (List (List Term))) (text : List (List Term)) (block : List Token) → i < length hs
       → BlocksSay bytes tokens ps (before ++ take i hs) texts → block ≡ slice_range tokens (get_or hs i d).first (get_or hs i d).last → Says bytes ps block text → new ≡ texts ++ text ∷ []
       → BlocksSay bytes tokens ps (before ++ take (i + 1) hs) new

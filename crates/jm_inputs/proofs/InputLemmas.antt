@@ -1,4 +1,4 @@
--- What files say, one behind the other.
+-- What files say, one after the other.
 use Rattle.std.proofs.Common.{◌≡◌, ℕ, ◌+◌, ◌<◌, Bool, List, [], ◌∷◌, ◌++◌, length, get_or, take, drop, Option, Some, None, refl, sym, ap, subst, ◌∙◌, arith, append_assoc, append-nil}
 use Rattle.std.specs.Prelude.{map, IfSome, IsSome, option_map}
 use Rattle.std.proofs.lemmas.List.{take-append-drop, take_more, drop_more, map-append, length-map}
@@ -16,7 +16,7 @@ use Rattle.jm_inputs.proofs.OneReadingLemmas.{one_specification, specification_h
 
 -- ---- lists
 
--- the sources before one and those behind it
+-- the sources before one and those after it
 pub split_sources : {S : Type 0} (make : List ℕ → Source) (g : S → List ℕ) (xs : List S) (i : ℕ) (x : S) → i < length xs → x ≡ get_or xs i x
     → map make (map g xs) ≡ map make (map g (take i xs)) ++ make (g x) ∷ map make (map g (drop (i + 1) xs))
 split_sources {S} make g xs i x lt here =

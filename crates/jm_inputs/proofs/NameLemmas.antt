@@ -39,7 +39,7 @@ module _ (catalog : List CatalogEntry) where
 pub first_kept : (old new : List (List ℕ)) → IsExtension old new → take (length old) new ≡ old
 first_kept old new more = ap (take (length old)) more.at_end ∙ take-append_seam old more.added
 
--- the first of distinct names, and the one behind them
+-- the first of distinct names, and the one after them
 pub one_name_more : (names : List (List ℕ)) (name : List ℕ) (count n : ℕ) → IsDistinct bytes_eq (take count names) → n < count → slice_get names n ≡ Some name → with_name (take n names) name ≡ take (n + 1) names
 one_name_more names name count n distinct less at =
     let there : slice_get (take count names) n ≡ Some name = slice_get-take count n names less ∙ at in

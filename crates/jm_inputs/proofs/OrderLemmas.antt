@@ -41,7 +41,7 @@ split_lines (x ∷ scripts) (suc k) lines at =
     let more = split_lines scripts k lines at in
     (more.0, ap (λ v. x ++ v) more.1 ∙ sym (append_assoc x (all_lines (take k scripts)) (lines ++ more.0)))
 
--- all lines: those before a line, the line, and what is behind it
+-- all lines: those before a line, the line, and what is after it
 around : (scripts : List (List SyncLine)) (k : ℕ) (before : List SyncLine) (l : SyncLine) → StandsBehind scripts k before l → (behind : List SyncLine) × (all_lines scripts ≡ before ++ l ∷ behind)
 around scripts k before l h =
     let more = split_lines scripts k (h.above ++ l ∷ h.below) h.there in (

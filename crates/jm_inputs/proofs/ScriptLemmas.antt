@@ -1,4 +1,4 @@
--- Scripts, read one behind the other.
+-- Scripts, read one after the other.
 use Rattle.std.proofs.Common.{◌≡◌, ℕ, ◌+◌, ◌*◌, ◌<◌, ◌≤◌, ◌^◌, Bool, true, false, List, [], ◌∷◌, ◌++◌, length, get_or, take, drop, Option, Some, Result, Ok, Err, refl, sym, ap, subst, ◌∙◌, inl, inr, arith, length-append}
 use Rattle.std.specs.Prelude.{map, All, OnOk}
 use Rattle.std.proofs.lemmas.List.{length-take-le, take_all, length_push, map-append}

@@ -62,7 +62,7 @@ module _ (contents later : List ℕ → Option (List ℕ)) (same : (name : List 
   pub given_before : (name bytes : List ℕ) → Gives later (Named name) bytes → Gives contents (Named name) bytes
   given_before name bytes h = subst (λ (v : List ℕ → Option (List ℕ)). Gives v (Named name) bytes) held h
 
-  -- the scripts weren't read, behind these specifications
+  -- the scripts weren't read, after these specifications
   pub stopped_behind : (ordered : Bool) (files count before : ℕ) (specs scripts : List Source) (library : Library) (status : Status) → IsLibraryOf contents false specs library → before ≡ files + length specs
       → StopsScripts later ordered (specs_in library) before count scripts status → StopsInputs contents ordered files count specs scripts status
   stopped_behind ordered files count before specs scripts library status read many h =
@@ -78,7 +78,7 @@ module _ (contents : List ℕ → Option (List ℕ)) where
   run_stops specs scripts status (inl h) = at_spec status tt h
   run_stops specs scripts status (inr h) = at_script h.0 status tt h.1 h.2 refl
 
-  -- a history is audited behind one file
+  -- a history is audited after one file
   pub audit_stops : (history bytes : List ℕ) (specs scripts : List (List ℕ)) (status : Status) → Gives contents (Named history) bytes → length bytes ≤ most_of_history
       → StopsInputs contents false 1 198000 (named specs) (named scripts) status → StopsCommand contents (Audit history specs scripts) status
   audit_stops history bytes specs scripts status given small (inl h) = at_spec status (bytes, given, small) h

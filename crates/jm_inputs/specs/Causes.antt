@@ -41,20 +41,20 @@ IsNotLoaded contents name number most too_long NoMemory = Unit {0}
 IsNotLoaded contents name number most too_long status =
     (status ≡ too_long) × IfSome (contents name) (λ held. most < length held)
 
--- these bytes, which have this number, say no specification behind these
+-- these bytes, which have this number, say no specification after these
 abbrev pub IsNoSpecIn : Bool → List Specification → ℕ → Text → Status → Type 0
 IsNoSpecIn families before number bytes (BadSpec file fault) = (file ≡ number) × IsRefusal families before bytes fault
 IsNoSpecIn families before number bytes NoMemory = Unit {0}
 IsNoSpecIn families before number bytes _ = ⊥
 
--- these bytes, which have this number, say no script behind others with so many steps and these names of objects
+-- these bytes, which have this number, say no script after others with so many steps and these names of objects
 abbrev pub IsNoScriptIn : List Specification → ℕ → List Text → ℕ → Text → Status → Type 0
 IsNoScriptIn specs count names number bytes (BadScript script fault) =
     (script ≡ number) × IsScriptFault specs count names bytes fault
 IsNoScriptIn specs count names number bytes NoMemory = Unit {0}
 IsNoScriptIn specs count names number bytes _ = ⊥
 
--- the bytes of a file, which has this number, say no script behind others with so many steps and these names of objects
+-- the bytes of a file, which has this number, say no script after others with so many steps and these names of objects
 abbrev pub IsNoScriptFileIn : Bool → List Specification → ℕ → List Text → ℕ → Text → Status → Type 0
 IsNoScriptFileIn ordered specs count names number bytes (BadScript script fault) =
     (script ≡ number) × IsScriptFileFault ordered specs count names bytes fault
@@ -68,7 +68,7 @@ IsNoOrder asked NoMemory = Unit {0}
 IsNoOrder asked _ = ⊥
 
 module _ (contents : FileContents) where
-  -- this source, which has this number, gives no specification behind these; so many files are before all of them
+  -- this source, which has this number, gives no specification after these; so many files are before all of them
   abbrev pub IsNoSpec : Bool → List Specification → ℕ → ℕ → Source → Status → Type 0
   IsNoSpec families before files number source (BadSpec file fault) =
       (file ≡ number) × ((bytes : Text) × Gives contents source bytes × IsRefusal families before bytes fault)
@@ -85,7 +85,7 @@ module _ (contents : FileContents) where
     pub stopped : IsNoSpec families before files number source status
 
 module _ (contents : FileContents) (ordered : Bool) (specs : List Specification) where
-  -- this source, which has this number, gives no script behind these; so many files are before the scripts
+  -- this source, which has this number, gives no script after these; so many files are before the scripts
   abbrev pub IsNoScript : ℕ → ℕ → List Text → ℕ → Source → Status → Type 0
   IsNoScript files count names number source (BadScript script fault) =
       (script ≡ number)
@@ -94,7 +94,7 @@ module _ (contents : FileContents) (ordered : Bool) (specs : List Specification)
   IsNoScript files count names number source NoMemory = Unit {0}
   IsNoScript files count names number source _ = ⊥
 
-  -- one of the sources, of which the ones before it say scripts, behind so many steps, gives none
+  -- one of the sources, of which the ones before it say scripts, after so many steps, gives none
   pub record StopsAtScript (files count : ℕ) (sources : List Source) (status : Status) : Type 0 where
     pub number : ℕ
     pub source : Source
@@ -103,7 +103,7 @@ module _ (contents : FileContents) (ordered : Bool) (specs : List Specification)
     pub reached : AreScriptsUpTo contents ordered specs count sources number source before names
     pub stopped : IsNoScript files (count + step_count before) names number source status
 
-  -- the sources say scripts, behind so many steps, and what these ask for can't be done
+  -- the sources say scripts, after so many steps, and what these ask for can't be done
   pub record StopsInOrder (count : ℕ) (sources : List Source) (status : Status) : Type 0 where
     pub scripts : List (List ScriptLine)
     pub objects : List Text
@@ -130,7 +130,7 @@ IsNoRecording contents specs name (ReadFailed file) = file ≡ 1
 IsNoRecording contents specs name NoMemory = Unit {0}
 IsNoRecording contents specs name _ = ⊥
 
--- why specifications from some sources, and scripts from others, aren't read, behind so many files and steps
+-- why specifications from some sources, and scripts from others, aren't read, after so many files and steps
 abbrev pub StopsInputs : FileContents → Bool → ℕ → ℕ → List Source → List Source → Status → Type 0
 StopsInputs contents ordered files count specs scripts status =
     StopsSpecs contents files false specs status

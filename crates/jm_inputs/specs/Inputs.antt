@@ -1,4 +1,4 @@
--- What the files of a command say, one behind the other.
+-- What the files of a command say, one after the other.
 use Rattle.std.specs.Prelude.{ℕ, ◌+◌, ◌≡◌, Bool, List, [], ◌∷◌, ◌++◌, length, Option, Some, None, option_map, if◌then◌else◌}
 use Rattle.jm_model.specs.Words.{Text}
 use Rattle.jm_model.specs.declared.fault.SpecFault.{SpecFault}
@@ -26,20 +26,20 @@ refusal_of families before s =
     or_else (grammar_fault families s.grammar_line)
     (option_map (λ earlier. DuplicateSpec) (number_of (spec_names (catalog_of before)) s.name))
 
--- the bytes say this specification, and it isn't refused behind these
+-- the bytes say this specification, and it isn't refused after these
 pub record IsAdmitted (families : Bool) (before : List Specification) (bytes : Text)
     (s : Specification) : Type 0 where
   pub said : IsSpecification bytes s
   pub sound : refusal_of families before s ≡ None
 
--- this is what is wrong with the bytes, or with the specification that they say, behind these
+-- this is what is wrong with the bytes, or with the specification that they say, after these
 pub data IsRefusal (families : Bool) (before : List Specification) (bytes : Text) (fault : SpecFault) : Type 0 where
   faulty : IsSpecFault bytes fault → IsRefusal families before bytes fault
   refused : (s : Specification) → IsSpecification bytes s → refusal_of families before s ≡ Some fault
       → IsRefusal families before bytes fault
 
 module _ (contents : FileContents) (families : Bool) where
-  -- the sources say these specifications, in order, behind those that were read before
+  -- the sources say these specifications, in order, after those that were read before
   abbrev pub SaySpecifications : List Specification → List Source → List Specification → Type 0
   SaySpecifications before [] specs = specs ≡ []
   SaySpecifications before (source ∷ sources) specs =
@@ -64,7 +64,7 @@ step_count [] = 0
 step_count (script ∷ scripts) = length script + step_count scripts
 
 module _ (contents : FileContents) (ordered : Bool) (specs : List Specification) where
-  -- the sources say these scripts, in order, behind so many steps and with these names of objects; the names in the
+  -- the sources say these scripts, in order, after so many steps and with these names of objects; the names in the
   -- end, and the bytes of each source
   abbrev pub SayScripts : ℕ → List Text → List Source → List (List ScriptLine) → List Text → List Text → Type 0
   SayScripts count names [] scripts objects texts = (scripts ≡ []) × (objects ≡ names) × (texts ≡ [])
@@ -75,7 +75,7 @@ module _ (contents : FileContents) (ordered : Bool) (specs : List Specification)
       × SayScripts (count + length script) later sources more objects others
 
   -- This source has this number among the sources, and those before it say these scripts, with these names of objects,
-  -- behind so many steps.
+  -- after so many steps.
   pub record AreScriptsUpTo (count : ℕ) (sources : List Source) (number : ℕ) (source : Source)
       (scripts : List (List ScriptLine)) (objects : List Text) : Type 0 where
     pub first : List Source
@@ -87,14 +87,14 @@ module _ (contents : FileContents) (ordered : Bool) (specs : List Specification)
 
 -- ---- what scripts ask for
 
--- what a text asks for, behind these names, where it may ask for something; and the names then
+-- what a text asks for, after these names, where it may ask for something; and the names then
 abbrev pub lines_in : Bool → List Text → Text → List SyncLine
 lines_in ordered names text = if ordered then sync_lines_of names text else []
 
 abbrev pub names_in : Bool → List Text → Text → List Text
 names_in ordered names text = if ordered then names_after names text else names
 
--- what the texts of scripts ask for, one by one, behind these names
+-- what the texts of scripts ask for, one by one, after these names
 abbrev pub asked_behind : Bool → List Text → List Text → List (List SyncLine)
 asked_behind ordered names [] = []
 asked_behind ordered names (text ∷ texts) =

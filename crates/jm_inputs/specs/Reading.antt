@@ -167,7 +167,7 @@ pub record HasScriptFrom (contents : FileContents) (source : Source) (ordered : 
   pub next : HasScript ordered specs bytes old new
 
 module _ (contents : FileContents) (ordered : Bool) where
-  -- the scripts are what the sources say, behind so many steps, which are counted with theirs, and what they ask for
+  -- the scripts are what the sources say, after so many steps, which are counted with theirs, and what they ask for
   pub record AreScriptsRead (specs : List Specification) (count : ℕ) (sources : List Source) (s : Scripts) : Type 0
     where
       pub texts : List Text
@@ -183,7 +183,7 @@ module _ (contents : FileContents) (ordered : Bool) where
       pub read : AreScriptsRead specs count sources s
       pub sound : AreSound (sync_of s.cuts.items)
 
-  -- what was read is what these sources of specifications and of scripts say, these behind so many steps
+  -- what was read is what these sources of specifications and of scripts say, these after so many steps
   pub record AreInputsOf (count : ℕ) (specs scripts : List Source) (inputs : Inputs) : Type 0 where
     pub library : IsLibraryOf contents false specs inputs.library
     pub read : AreScriptsOf (specs_in inputs.library) count scripts inputs.scripts

@@ -1,4 +1,4 @@
--- What a file says that is a script, behind others, and what is wrong with one that isn't.
+-- What a file says that is a script, after others, and what is wrong with one that isn't.
 use Rattle.std.specs.Prelude.{ℕ, ◌≡◌, ◌<◌, ◌≤◌, Bool, List, [], length, map, Some, None, if◌then◌else◌}
 use Rattle.jm_model.specs.Words.{Text}
 use Rattle.jm_model.specs.declared.fault.ScriptFault.{ScriptFault}
@@ -17,7 +17,7 @@ entry_of s = record { name = s.name; table = s.table }
 abbrev pub catalog_of : List Specification → List CatalogEntry
 catalog_of specs = map entry_of specs
 
--- what a script means, behind so many steps and with these names of objects, which the scripts before it have
+-- what a script means, after so many steps and with these names of objects, which the scripts before it have
 abbrev pub meaning_over : List Specification → ℕ → List Text → Text → ScriptMeaning
 meaning_over specs count names bytes = script_meaning (catalog_of specs) count bytes names
 

@@ -21,7 +21,7 @@ pub fn load<F: Folder>(
     ensures err { IfErr result (IsNotLoaded (F.holds files.old) name.now number most too_long) }
     ensures read_failed { CountsFailedReads result (F.faults files.old) (F.faults files.new) }
     ensures never_falls { F.faults files.old ≤ F.faults files.new }
-    ensures same { (other : List ℕ) → F.holds files.new other ≡ F.holds files.old other }
+    ensures unchanged { (other : List ℕ) → F.holds files.new other ≡ F.holds files.old other }
 {
     match files.load(name, most) {
         Ok(bytes) => Ok(bytes),

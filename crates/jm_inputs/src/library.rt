@@ -1,4 +1,4 @@
-//! The specifications of a command, read one behind the other.
+//! The specifications of a command, read one after the other.
 ghost use Rattle.std.specs.Prelude.{◌≡◌, ◌<◌, ◌≤◌, ◌∷◌, ◌++◌, [], ℕ, List, length, map, IfOk, IfErr, OnOk, IsSome, None, true, false, string_bytes};
 ghost use Rattle.jm_events.specs.Names.{number_of};
 ghost use Rattle.jm_reading.specs.Faults.{Checks};
@@ -42,7 +42,7 @@ impl Library {
 
     /// Adds a specification. The fault is `DuplicateSpec` where one has its name.
     fn add(&mut self, name: &str, table: EventTable, loaded: Loaded) -> Result<(), SpecError>
-        requires few { length self.old.specs.items < 16 }
+        requires bounded { length self.old.specs.items < 16 }
         requires catalogued { IsCatalogued self.old }
         requires whole { IsWhole (listing (named_entry name.now table) loaded) }
         ensures listed { OnOk result (listed_in self.new
@@ -59,8 +59,8 @@ impl Library {
     }
 }
 
-/// Reads the specifications of these names, in order, whose files stand behind so many others. Where families are asked
-/// for, a grammar is refused.
+/// Reads the specifications of these names, in order, whose files stand after a number of others. Where families are
+/// asked for, a grammar is refused.
 pub fn read_specifications<F: Folder>(
     alloc: Global,
     names: &[String],
@@ -68,13 +68,13 @@ pub fn read_specifications<F: Folder>(
     families: bool,
     files: &mut F,
 ) -> Result<Library, Status>
-    requires few { length names.now ≤ 16 }
+    requires bounded { length names.now ≤ 16 }
     requires before { before ≤ 1 }
     ensures read { IfOk result (IsLibraryOf (F.holds files.old) families (named (map string_bytes names.now))) }
     ensures err { IfErr result (StopsSpecs (F.holds files.old) before families (named (map string_bytes names.now))) }
     ensures read_failed { CountsFailedReads result (F.faults files.old) (F.faults files.new) }
     ensures never_falls { F.faults files.old ≤ F.faults files.new }
-    ensures same { (other : List ℕ) → F.holds files.new other ≡ F.holds files.old other }
+    ensures unchanged { (other : List ℕ) → F.holds files.new other ≡ F.holds files.old other }
 {
     let mut library = Library::new(alloc);
     for name in names {
@@ -98,9 +98,9 @@ pub(crate) fn given_specifications(alloc: Global, files: &[Vec<u8>]) -> Result<L
     Ok(library)
 }
 
-/// Reads the specification that these bytes say, behind those of the library, however many they are.
+/// Reads the specification that these bytes say, after those of the library, however many they are.
 fn read_given(alloc: Global, bytes: &[u8], library: &mut Library) -> Result<(), Status>
-    requires few { length library.old.specs.items < 16 }
+    requires bounded { length library.old.specs.items < 16 }
     requires catalogued { IsCatalogued library.old }
     ensures read { OnOk result (HasNext false bytes.now library.old library.new) }
     ensures err { IfErr result (IsNoSpecIn false (specs_in library.old) (length library.old.specs.items) bytes.now) }
@@ -112,8 +112,8 @@ fn read_given(alloc: Global, bytes: &[u8], library: &mut Library) -> Result<(), 
     read_bytes(alloc, bytes, number, false, library)
 }
 
-/// Reads the specification of this name, behind those of the library, whose files stand behind so many others. After an
-/// error the library is of no use.
+/// Reads the specification of this name, after those of the library, whose files stand after a number of others. After
+/// an error the library is of no use.
 fn read_next<F: Folder>(
     alloc: Global,
     name: &str,
@@ -123,14 +123,14 @@ fn read_next<F: Folder>(
     library: &mut Library,
 ) -> Result<(), Status>
     requires before { before ≤ 1 }
-    requires few { length library.old.specs.items < 16 }
+    requires bounded { length library.old.specs.items < 16 }
     requires catalogued { IsCatalogued library.old }
     ensures read { OnOk result (HasNextFrom (F.holds files.old) (Named name.now) families library.old library.new) }
     ensures err { IfErr result (IsNoSpec (F.holds files.old) families (specs_in library.old) before
         (length library.old.specs.items) (Named name.now)) }
     ensures read_failed { CountsFailedReads result (F.faults files.old) (F.faults files.new) }
     ensures never_falls { F.faults files.old ≤ F.faults files.new }
-    ensures same { (other : List ℕ) → F.holds files.new other ≡ F.holds files.old other }
+    ensures unchanged { (other : List ℕ) → F.holds files.new other ≡ F.holds files.old other }
 {
     let number = library.specs.len() as u32;
     let bytes = load(name, before + number, MOST_BYTES, too_long(number), files)?;
@@ -157,7 +157,7 @@ fn read_bytes(
     library: &mut Library,
 ) -> Result<(), Status>
     requires small { length bytes.now ≤ most_bytes }
-    requires few { length library.old.specs.items < 16 }
+    requires bounded { length library.old.specs.items < 16 }
     requires catalogued { IsCatalogued library.old }
     ensures read { OnOk result (HasNext families bytes.now library.old library.new) }
     ensures err { IfErr result (IsNoSpecIn families (specs_in library.old) number bytes.now) }
@@ -174,7 +174,7 @@ fn read_bytes(
     }
 }
 
-/// Reads the specification that these bytes say, behind those of the library.
+/// Reads the specification that these bytes say, after those of the library.
 fn admit(
     alloc: Global,
     bytes: &[u8],
@@ -182,7 +182,7 @@ fn admit(
     library: &mut Library,
 ) -> Result<(), SpecError>
     requires small { length bytes.now ≤ most_bytes }
-    requires few { length library.old.specs.items < 16 }
+    requires bounded { length library.old.specs.items < 16 }
     requires catalogued { IsCatalogued library.old }
     ensures read { OnOk result (HasNext families bytes.now library.old library.new) }
     ensures fault { (fault : SpecFault) → result ≡ Err (SpecError.Bad fault)

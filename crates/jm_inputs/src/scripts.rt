@@ -1,4 +1,4 @@
-//! The scripts of a command, read one behind the other.
+//! The scripts of a command, read one after the other.
 ghost use Rattle.std.specs.Prelude.{◌≡◌, ◌+◌, ◌<◌, ◌≤◌, [], List, true, length, map, take, Some, IfOk, IfErr, OnOk, string_bytes};
 ghost use Rattle.std.specs.List.{IsDistinct};
 ghost use Rattle.std.specs.Str.{bytes_eq};
@@ -36,7 +36,7 @@ pub struct Setting {
     pub ordered: bool,
 }
 
-/// Scripts in order, the names of their objects, and how many steps count as read behind them; the lines of each that
+/// Scripts in order, the names of their objects, and how many steps count as read after them; the lines of each that
 /// ask for order, and the names that these post or wait for.
 #[derive(Drop)]
 pub struct Scripts {
@@ -48,7 +48,7 @@ pub struct Scripts {
 }
 
 impl Scripts {
-    /// No script. So many steps count as read.
+    /// No script. The given number of steps counts as read.
     pub(crate) fn new(alloc: Global, count: u32) -> Scripts
         requires { count ≤ 200000 }
         ensures list { result.list.items ≡ [] }
@@ -77,7 +77,7 @@ pub(crate) fn read_scripts<F: Folder>(
     setting: Setting,
     files: &mut F,
 ) -> Result<Scripts, Status>
-    requires few { length names.now ≤ 16 }
+    requires bounded { length names.now ≤ 16 }
     requires files { setting.files ≤ 1 }
     requires steps { setting.steps ≤ 200000 }
     requires few_specs { length library.now.specs.items ≤ 16 }
@@ -103,7 +103,7 @@ pub(crate) fn given_scripts(
     files: &[Vec<u8>],
     library: &Library,
 ) -> Result<Scripts, Status>
-    requires few { length files.now ≤ 16 }
+    requires bounded { length files.now ≤ 16 }
     requires catalogued { IsCatalogued library.now }
     ensures read { (contents : FileContents)
         → IfOk result (AreScriptsOf contents true (specs_in library.now) 0
@@ -135,14 +135,14 @@ fn check_order(alloc: Global, cuts: &[Cut]) -> Result<(), Status>
     }
 }
 
-/// Reads the script that these bytes say, behind the others, however many they are.
+/// Reads the script that these bytes say, after the others, however many they are.
 fn read_given(
     alloc: Global,
     bytes: &[u8],
     library: &Library,
     scripts: &mut Scripts,
 ) -> Result<(), Status>
-    requires few { length scripts.old.list.items < 16 }
+    requires bounded { length scripts.old.list.items < 16 }
     requires catalogued { IsCatalogued library.now }
     requires counted { AreCounted (specs_in library.now) scripts.old }
     ensures read { OnOk result (HasScript true (specs_in library.now) bytes.now scripts.old scripts.new) }
@@ -156,7 +156,7 @@ fn read_given(
     read_bytes(alloc, bytes, number, library, true, scripts)
 }
 
-/// Reads the script of this name, behind the others. After an error the scripts are of no use.
+/// Reads the script of this name, after the others. After an error the scripts are of no use.
 fn read_next<F: Folder>(
     alloc: Global,
     name: &str,
@@ -166,7 +166,7 @@ fn read_next<F: Folder>(
     scripts: &mut Scripts,
 ) -> Result<(), Status>
     requires few_files { setting.files + length library.now.specs.items ≤ 17 }
-    requires few { length scripts.old.list.items < 16 }
+    requires bounded { length scripts.old.list.items < 16 }
     requires catalogued { IsCatalogued library.now }
     requires counted { AreCounted (specs_in library.now) scripts.old }
     ensures read { OnOk result (HasScriptFrom (F.holds files.old) (Named name.now)
@@ -213,7 +213,7 @@ fn read_bytes(
     scripts: &mut Scripts,
 ) -> Result<(), Status>
     requires small { length bytes.now ≤ most_bytes }
-    requires few { length scripts.old.list.items < 16 }
+    requires bounded { length scripts.old.list.items < 16 }
     requires catalogued { IsCatalogued library.now }
     requires counted { AreCounted (specs_in library.now) scripts.old }
     ensures read { OnOk result (HasScript ordered (specs_in library.now) bytes.now scripts.old scripts.new) }
@@ -232,7 +232,7 @@ fn read_bytes(
     }
 }
 
-/// Reads the script that these bytes say, behind the others. Unless it seems to ask for order it is read as it stands,
+/// Reads the script that these bytes say, after the others. Unless it seems to ask for order it is read as it stands,
 /// and without the lines that ask for order where it has a fault so: as it stands each of these is one.
 fn add(
     alloc: Global,
@@ -242,7 +242,7 @@ fn add(
     scripts: &mut Scripts,
 ) -> Result<(), ScriptError>
     requires small { length bytes.now ≤ most_bytes }
-    requires few { length scripts.old.list.items < 16 }
+    requires bounded { length scripts.old.list.items < 16 }
     requires catalogued { IsCatalogued library.now }
     requires counted { AreCounted (specs_in library.now) scripts.old }
     ensures read { OnOk result (HasScript ordered (specs_in library.now) bytes.now scripts.old scripts.new) }
@@ -264,14 +264,14 @@ fn add(
     }
 }
 
-/// Whether these bytes seem to ask for order, behind the others: some of those do, or one of the two words stands near
+/// Whether these bytes seem to ask for order, after the others: some of those do, or one of the two words stands near
 /// the end. It says nothing for sure.
 fn seems_to_ask(bytes: &[u8], scripts: &Scripts) -> bool {
     let end = &bytes[bytes.len().saturating_sub(NEAR_THE_END)..];
     scripts.posted.len() > 0 || find(end, b"post").is_some() || find(end, b"wait").is_some()
 }
 
-/// Reads the script that is left of these bytes without the lines that ask for order, behind the others.
+/// Reads the script that is left of these bytes without the lines that ask for order, after the others.
 fn add_cut(
     alloc: Global,
     bytes: &[u8],
@@ -279,7 +279,7 @@ fn add_cut(
     scripts: &mut Scripts,
 ) -> Result<(), ScriptError>
     requires small { length bytes.now ≤ most_bytes }
-    requires few { length scripts.old.list.items < 16 }
+    requires bounded { length scripts.old.list.items < 16 }
     requires catalogued { IsCatalogued library.now }
     requires counted { AreCounted (specs_in library.now) scripts.old }
     ensures read { OnOk result (HasScript true (specs_in library.now) bytes.now scripts.old scripts.new) }
@@ -290,7 +290,7 @@ fn add_cut(
     add_steps(alloc, rest.as_slice(), lines, library, scripts)
 }
 
-/// The first so many of these names, under the same numbers.
+/// The first of these names, up to the given count, under the same numbers.
 fn first_names(alloc: Global, names: &Names, count: u32) -> Result<Names, NoMemory>
     requires count { count ≤ length names.now }
     requires distinct { IsDistinct bytes_eq (take count names.now) }

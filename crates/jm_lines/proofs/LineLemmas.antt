@@ -1,4 +1,4 @@
--- The words of a text's first line, found one after another, and the lines behind it.
+-- The words of a text's first line, found one after another, and the lines after it.
 use Rattle.std.proofs.Common.{◌≡◌, ℕ, suc, ◌+◌, ◌-◌, ◌<◌, ◌≤◌, Bool, true, false, ◌==◌, cond, not, List, [], ◌∷◌, ◌++◌, filter, length, get_or, take, drop, refl, sym, ap, ◌∙◌, append_assoc, arith, length-append, length-drop, drop-drop}
 use Rattle.std.specs.Prelude.{All, slice_index}
 use Rattle.std.specs.List.{slice_split, position_or_len, before_first}
@@ -23,7 +23,7 @@ append_none (b ∷ l) = ap (λ m. b ∷ m) (append_none l)
 one_more : (n : ℕ) → 1 + n ≡ suc n
 one_more n = omega arith
 
--- what stands before the first byte that passes, behind bytes of which none does
+-- what stands before the first byte that passes, after bytes of which none does
 before_front : (p : ℕ → Bool) (front rest : List ℕ) → NonePass p front → before_first p (front ++ rest) ≡ front ++ before_first p rest
 before_front p [] rest h = refl
 before_front p (b ∷ front) rest h =
@@ -119,7 +119,7 @@ module _ (part : List ℕ) (plain : NonePass is_low part) where
   words_alone : (line : List ℕ) → line ≡ part → words_of line ≡ filter is_some_word (part ∷ [])
   words_alone line e = ap (λ l. filter is_some_word (slice_split is_blank l)) (ap content_of e ∙ alone) ∙ ap (filter is_some_word) (slice_split_none is_blank part blanks)
 
-  -- a blank stands behind it
+  -- a blank stands after it
   module _ (b : ℕ) (rest : List ℕ) (blank : is_blank b ≡ true) where
     line_on : first_line (part ++ b ∷ rest) ≡ part ++ b ∷ first_line rest
     line_on = before_front is_line_feed part (b ∷ rest) feeds ∙ ap (λ l. part ++ l) (before_skip is_line_feed b rest (blank_no_feed b blank))
@@ -164,7 +164,7 @@ module _ (text : List ℕ) (words : List (List ℕ)) (at end : ℕ) (part : List
   plain : NonePass is_low part
   plain = rw is_front (plain_before is_low (drop at text))
 
-  -- the text ends behind the word
+  -- the text ends after the word
   module _ (all : end ≡ length text) where
     whole : drop at text ≡ part
     whole = sym (here ∙ take_all (end - at) (drop at text) (omega (arith, length-drop at text)))
@@ -181,7 +181,7 @@ module _ (text : List ℕ) (words : List (List ℕ)) (at end : ℕ) (part : List
         let none = ap (position_or_len is_line_feed) (whole ∙ sym (append_none part)) ∙ place_front is_line_feed part [] (feeds part plain) in
         omega (arith, before.line, none, ap length whole, length-drop at text, before.bounded)
 
-  -- a byte stands behind it
+  -- a byte stands after it
   module _ (lt : end < length text) (b : ℕ) (byte : b ≡ get_or text end 0) where
     split : drop at text ≡ part ++ b ∷ drop (end + 1) text
     split =
@@ -223,7 +223,7 @@ module _ (text : List ℕ) (words : List (List ℕ)) (at end : ℕ) (part : List
 
 -- ---- the lines
 
--- no line stands behind the first
+-- no line stands after the first
 pub lines_end : (text : List ℕ) → position_or_len is_line_feed text ≡ length text → lines_of text ≡ first_line text ∷ []
 lines_end text all =
     let whole : first_line text ≡ text = take_all (position_or_len is_line_feed text) text (omega arith) in

@@ -17,7 +17,7 @@ is_hash b = b == 35
 abbrev pub is_blank : ℕ → Bool
 is_blank b = b == 32 || b == 9
 
--- the lines of a script; what stands behind the last line feed is a line too
+-- the lines of a script; what stands after the last line feed is a line too
 abbrev pub lines_of : Text → List Text
 lines_of bytes = slice_split is_line_feed bytes
 

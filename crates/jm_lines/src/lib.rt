@@ -1,6 +1,6 @@
 //! The lines of a script, and the words of a line.
 //!
-//! `first_words` reads the words of a text's first line, and `behind_line` gives what stands behind it. The calls beside
+//! `first_words` reads the words of a text's first line, and `behind_line` gives what stands after it. The calls beside
 //! them say what a word is.
 #![tactic(auto)]
 

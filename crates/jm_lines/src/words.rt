@@ -61,7 +61,7 @@ fn marked_words<'a>(text: &'a [u8], words: &mut Vec<&'a [u8]>) -> Result<usize, 
     Ok(end)
 }
 
-/// What stands behind a text's first line, which ends here, if a line feed ends it.
+/// What stands after a text's first line, which ends here, if a line feed ends it.
 pub fn behind_line(text: &[u8], end: usize) -> Option<&[u8]>
     requires { end ≡ position_or_len is_line_feed text.now }
     ensures lines { lines_of text.now ≡ first_line text.now ∷ lines_left result }
@@ -73,7 +73,7 @@ pub fn behind_line(text: &[u8], end: usize) -> Option<&[u8]>
     Some(&text[end + 1..])
 }
 
-/// Where a byte below `$` stands, and what is known of those behind it.
+/// Where a byte below `$` stands, and what is known of those after it.
 #[derive(Clone, Copy)]
 struct Low {
     place: usize,
@@ -118,7 +118,7 @@ fn told_low(text: &[u8], at: usize, low: u64) -> Low
     }
 }
 
-/// Which bytes from a place on are below `$`, of those that are looked at together, where there are so many.
+/// Which bytes from a place on are below `$`, of those that are looked at together, where there are enough.
 #[inline(always)]
 fn more_low(text: &[u8], at: usize) -> u64
     requires { at ≤ length text.now }

@@ -56,7 +56,7 @@ same_numbered i j x y few less e =
 
 -- ---- lists of names
 
--- what stands in two lists, one behind the other
+-- what stands in two lists, one after the other
 in_both : {X : Type 0} (xs ys : List X) (k : ℕ) (x : X) → slice_get (xs ++ ys) k ≡ Some x → (slice_get xs k ≡ Some x) ⊎ ((i : ℕ) × (k ≡ length xs + i) × (slice_get ys i ≡ Some x))
 in_both [] ys k x at = inr (k, omega arith, at)
 in_both (z ∷ xs) ys zero x at = inl at

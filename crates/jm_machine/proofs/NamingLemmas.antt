@@ -22,7 +22,7 @@ behind : (xs : List (List ℕ)) (y : List ℕ) (ys : List (List ℕ)) → slice_
 behind [] y ys = refl
 behind (x ∷ xs) y ys = behind xs y ys
 
--- a name that stands behind these, where all are distinct, is none of these
+-- a name that stands after these, where all are distinct, is none of these
 fresh : (names : List (List ℕ)) (name : List ℕ) (rest : List (List ℕ)) → AreDistinct (names ++ name ∷ rest) → number_of names name ≡ None
 fresh names name rest distinct = by_case (number_of names name) refl
   where
@@ -121,7 +121,7 @@ numbered_all all n past = ap (λ (xs : List (List (List ℕ))). numbered_from 0 
     whole (x ∷ xs) zero past = absurd (omega (arith, past))
     whole (x ∷ xs) (suc k) past = ap (λ (ys : List (List (List ℕ))). x ∷ ys) (whole xs k (omega (arith, past)))
 
--- a property more, behind the first
+-- a property more, after the first
 module _ (first : CompiledProperty) (others : List CompiledProperty) (k : ℕ) (part : CompiledProperty) (names own : List (List ℕ)) (less : k < length others) (at : part ≡ get_or others k part) (is : own ≡ part.definition.handlers)
     (so : names ≡ numbered_from 0 (take (k + 1) (map (λ (c : CompiledProperty). c.definition.handlers) (first ∷ others)))) where
   abbrev each : List (List (List ℕ))

@@ -82,7 +82,7 @@ first_below (q ∷ ps) zero i p at less =
     omega (arith, here)
 first_below (q ∷ ps) (suc j) i p at less = omega (arith, first_below ps j i p at less)
 
--- the handlers of a property are some of all, and those of the next begin behind them
+-- the handlers of a property are some of all, and those of the next begin after them
 pub first_within : (ps : List PropertyDefinition) (j : ℕ) (p : PropertyDefinition) → slice_get ps j ≡ Some p → first_of ps j + length p.handlers ≤ handler_count ps
 first_within [] j p at = absurd (none-some p at)
 first_within (q ∷ ps) zero p at =

@@ -122,7 +122,7 @@ module _ (bytes : List ℕ) (tokens : List Token) (table : EventDefinitions) (su
   formulas_push (q ∷ ps) [] p f h one = absurd h
   formulas_push (q ∷ ps) (g ∷ fs) p f h one = (h.0, formulas_push ps fs p f h.1 one)
 
-  -- a property with one more behind it
+  -- a property with one more after it
   in_longer : (ps : List PropertyFacts) (p : PropertyFacts) (k : ℕ) (q : PropertyFacts) → slice_get ps k ≡ Some q → slice_get (ps ++ p ∷ []) k ≡ Some q
   in_longer [] p k q at = absurd (none-some q at)
   in_longer (x ∷ ps) p zero q at = at

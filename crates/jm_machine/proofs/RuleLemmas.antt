@@ -259,7 +259,7 @@ module _ (r : CompiledRules) (set : IsRuleSet r) where
   pub count_parts : length ps ≡ length r.parts
   count_parts = ap length set.properties ∙ length-map r.parts property_of
 
-  -- the handlers of a part are some of at most 16, and those of the next begin behind them
+  -- the handlers of a part are some of at most 16, and those of the next begin after them
   pub room : (n before count : ℕ) (part : CompiledProperty) → slice_get r.parts n ≡ Some part → before ≡ first_of ps n → count ≡ length part.definition.handlers → before + count ≤ 16
   room n before count part at number many = omega (arith, number, many, first_within ps n (property_of part) (property_at n part at), set.handlers)
 

@@ -83,7 +83,7 @@ impl Formula {
     /// The names of the categories. The number of a name is the category's group in the compiled table.
     pub(crate) fn categories(&self, alloc: Global) -> Result<Names, NoMemory>
         ensures value { IfOk result (λ names. names ≡ category_names self.now) }
-        ensures few { IfOk result (λ names. length names ≤ 1280) }
+        ensures bounded { IfOk result (λ names. length names ≤ 1280) }
     {
         match self {
             Formula::Machine(machine) => machine.categories(alloc),
@@ -203,7 +203,7 @@ fn parses_suffixes(
     events: &EventTable,
 ) -> Result<Engine, SpecError>
     requires below { AreBelow grammar.now.productions (length events.now.events) }
-    requires few { IsWithin 31 grammar.now }
+    requires bounded { IsWithin 31 grammar.now }
     ensures engine { IfOk result (IsEngineOf events.now.events (Formula.GrammaticalSuffix grammar.now)) }
     ensures err { IfErr result (λ e. e ≡ SpecError.NoMemory) }
 {

@@ -44,7 +44,7 @@ fn must_bind_of(table: &EventTable, full_binding: bool) -> u8
     }
 }
 
-/// The mask of so many bits.
+/// The mask of the given number of bits.
 fn all_below(count: u8) -> u8
     requires { count ≤ 8 }
     ensures { result ≡ 2 ^ count - 1 }

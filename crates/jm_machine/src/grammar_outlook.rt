@@ -51,7 +51,7 @@ impl Model for GrammarOutlook {
 }
 
 impl GrammarOutlook {
-    /// The outlook of a grammar of so many letters.
+    /// The outlook of a grammar over the given number of letters.
     pub(crate) fn new(
         alloc: Global,
         charts: &Charts,
@@ -90,7 +90,7 @@ impl GrammarOutlook {
         requires begin { IsChartOf parser.now.charts.now [] self.now.begin }
         requires firsts { AreFirstCharts parser.now.charts.now self.now.firsts }
         requires masks { parser.now.masks.now ≡ parser.now.charts.now.params }
-        requires few { length parser.now.masks.now ≤ 32 }
+        requires bounded { length parser.now.masks.now ≤ 32 }
         ensures failing { self.now.failing ≡ true →
             IsTrue result ↔ ((e : ℕ) → IsAvailable parser.now.charts.now.params dead e → ⊥) }
         ensures matching { self.now.failing ≡ false → (word : List ℕ)
@@ -111,7 +111,7 @@ impl GrammarOutlook {
         requires begin { IsChartOf parser.now.charts.now [] self.now.begin }
         requires firsts { AreFirstCharts parser.now.charts.now self.now.firsts }
         requires masks { parser.now.masks.now ≡ parser.now.charts.now.params }
-        requires few { length parser.now.masks.now ≤ 32 }
+        requires bounded { length parser.now.masks.now ≤ 32 }
         ensures { (word : List ℕ) → IsLeftOf parser.now.charts.now place.now reset word →
             IsTrue result ↔ CanMatch parser.now.charts.now parser.now.goal.now place.now word dead }
     {
@@ -127,7 +127,7 @@ impl GrammarOutlook {
     fn can_begin(&self, parser: &Parser, dead: u8) -> bool
         requires firsts { AreFirstCharts parser.now.charts.now self.now.firsts }
         requires masks { parser.now.masks.now ≡ parser.now.charts.now.params }
-        requires few { length parser.now.masks.now ≤ 32 }
+        requires bounded { length parser.now.masks.now ≤ 32 }
         ensures { IsTrue result ↔ ((e : ℕ) × BeginsWith parser.now.charts.now parser.now.goal.now dead e) }
     {
         for letter in 0..parser.masks.len() as u8 {
@@ -143,7 +143,7 @@ impl GrammarOutlook {
     fn begins_with(&self, parser: &Parser, letter: Letter, dead: u8) -> bool
         requires firsts { AreFirstCharts parser.now.charts.now self.now.firsts }
         requires masks { parser.now.masks.now ≡ parser.now.charts.now.params }
-        requires few { length parser.now.masks.now ≤ 32 }
+        requires bounded { length parser.now.masks.now ≤ 32 }
         requires letter { letter.0 < length parser.now.masks.now }
         ensures { IsTrue result ↔ BeginsWith parser.now.charts.now parser.now.goal.now dead letter.0 }
     {

@@ -42,7 +42,7 @@ pub(crate) fn check_handlers(
 /// At most 16 handlers of all properties.
 fn check_count(properties: &[PropertyTree]) -> Result<(), SpecError>
     ensures checked { Checks result (count_fault (map facts_of properties.now)) }
-    ensures few { IfOk result (λ _. handlers_in (map facts_of properties.now) ≤ 16) }
+    ensures bounded { IfOk result (λ _. handlers_in (map facts_of properties.now) ≤ 16) }
 {
     let mut count = 0;
     for property in properties {
@@ -236,7 +236,7 @@ fn block_without_reset(bytes: &[u8], block: &[Token]) -> Result<(), SpecError>
 /// The handlers whose block has the word `__RESET`: bit k stands for handler k.
 pub(crate) fn resets_of(bytes: &[u8], tokens: &[Token], handlers: &[HandlerText]) -> u16
     requires tokens { LieWithin bytes.now tokens.now }
-    requires few { length handlers.now ≤ 16 }
+    requires bounded { length handlers.now ≤ 16 }
     ensures bits { (k : ℕ) → IsBitSet result k ↔ IsSomeAnd (slice_get handlers.now k)
         (λ h. has_reset bytes.now (slice_range tokens.now h.first h.last) ≡ true) }
     ensures below { result < 2 ^ length handlers.now }
@@ -270,7 +270,7 @@ pub(crate) fn groups_of(
     categories: &Names,
     handlers: &Names,
 ) -> Result<Vec<u16>, SpecError>
-    requires few { length categories.now ≤ 65535 }
+    requires bounded { length categories.now ≤ 65535 }
     requires known { AreCategories categories.now handlers.now }
     ensures groups { IfOk result (λ groups. map Some groups.items ≡ map (number_of categories.now) handlers.now) }
     ensures err { IfErr result (λ e. e ≡ SpecError.NoMemory) }

@@ -43,7 +43,7 @@ fn add_numbered(
     categories: &Names,
 ) -> Result<(), NoMemory>
     requires number { number < 16 }
-    requires few { length names.old + length categories.now ≤ 16 }
+    requires bounded { length names.old + length categories.now ≤ 16 }
     requires distinct { AreDistinct (names.old ++ map (numbered number) categories.now) }
     ensures { OnOk result (names.new ≡ names.old ++ map (numbered number) categories.now) }
 {

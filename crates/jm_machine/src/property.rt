@@ -133,7 +133,7 @@ impl Property {
         ensures family { is_grammar self.now.definition.formula ≡ false →
             IfOk result (λ family. IsSomeAnd family
             (λ masks. IsFamily (property_meaning self.now.definition) letter.0 masks.items)) }
-        ensures few { IfOk result (λ family. IfSome family (λ masks. (mask : ℕ) → Contains masks.items mask → mask < 256)) }
+        ensures bounded { IfOk result (λ family. IfSome family (λ masks. (mask : ℕ) → Contains masks.items mask → mask < 256)) }
         ensures none { is_grammar self.now.definition.formula ≡ true → IfOk result (λ family. family ≡ None) }
     {
         match &self.engine {

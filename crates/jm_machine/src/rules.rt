@@ -86,10 +86,10 @@ impl Rules {
         tree: &SpecTree,
     ) -> Result<Rules, SpecError>
         requires tokens { LieWithin bytes.now tokens.now }
-        requires few { IsFewProperties tree.now }
+        requires bounded { IsFewProperties tree.now }
         ensures ok { IfOk result (λ r. IsCompiledFrom bytes.now tokens.now tree.now r.definition) }
         ensures fit { IfOk result (λ r. All (λ mask. mask < 2 ^ length tree.now.table.parameters) r.definition.masks) }
-        ensures few { IfOk result (λ r. handler_count r.definition.properties ≤ 16) }
+        ensures bounded { IfOk result (λ r. handler_count r.definition.properties ≤ 16) }
         ensures count { IfOk result (λ r. length r.definition.properties ≡ length tree.now.properties.items) }
         ensures err { IfErr result (IsNotCompiled bytes.now tokens.now tree.now) }
     {
@@ -506,7 +506,7 @@ fn place_at<'a>(places: &'a [Place], otherwise: &'a Place, number: u8) -> &'a Pl
     }
 }
 
-/// The bits of handlers, of which there are so many, moved past so many others.
+/// The bits of the given number of handlers, moved past those of others.
 fn moved(hits: u16, before: u8, count: u8) -> u16
     requires { before + count ≤ 16 }
     ensures { (k : ℕ) → IsBitSet result k ↔ ((i : ℕ) × (i < count) × (k ≡ before + i) × IsBitSet hits i) }

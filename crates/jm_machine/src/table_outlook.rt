@@ -178,7 +178,7 @@ impl TableOutlook {
             → AreNeedsOf t g v self.now.needs →
             IfOk result (λ masks. (mask : ℕ) → mask < 256
             → Contains masks.items mask ↔ IsInFamily t g v letter.0 mask) }
-        ensures few { IfOk result (λ masks. (mask : ℕ) → Contains masks.items mask → mask < 256) }
+        ensures bounded { IfOk result (λ masks. (mask : ℕ) → Contains masks.items mask → mask < 256) }
     {
         self.needs.family(letter)
     }

@@ -11,7 +11,7 @@ pub(crate) fn union_of(alloc: Global, one: &[u8], other: &[u8]) -> Result<Vec<u8
     ensures rising { IfOk result (λ masks. IsStrictlySortedBy nat_cmp masks.items) }
     ensures exact { IfOk result (λ masks. (mask : ℕ) → mask < 256
         → Contains masks.items mask ↔ (Contains one.now mask ⊎ Contains other.now mask)) }
-    ensures few { IfOk result (λ masks. (mask : ℕ) → Contains masks.items mask → mask < 256) }
+    ensures bounded { IfOk result (λ masks. (mask : ℕ) → Contains masks.items mask → mask < 256) }
 {
     let mut masks = Vec::new(alloc);
     for number in 0..256u16 {

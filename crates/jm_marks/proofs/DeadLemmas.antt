@@ -38,7 +38,7 @@ dead_mask-none flags (None ∷ b) e =
     let ih = dead_mask-none flags b (omega arith) in omega arith
 dead_mask-none flags (Some o ∷ b) e = absurd (omega arith)
 
--- nor in what lies behind as many parameters as the mask has room in
+-- nor in what lies after as many parameters as the mask has room in
 mask_of-behind : (b : List (Option ℕ)) (p : ℕ) → mask_of b < 2 ^ p → mask_of (drop p b) ≡ 0
 mask_of-behind b zero h = omega arith
 mask_of-behind [] (suc p) h = refl
@@ -48,7 +48,7 @@ mask_of-behind (Some o ∷ b) (suc p) h = let wide = rw (pow-suc 2 p) at h in ma
 pub dead_mask-behind : (flags : List Bool) (b : List (Option ℕ)) (p : ℕ) → mask_of b < 2 ^ p → dead_mask_of flags (drop p b) ≡ 0
 dead_mask-behind flags b p h = dead_mask-none flags (drop p b) (mask_of-behind b p h)
 
--- a live object is bound at a parameter or behind it
+-- a live object is bound at a parameter or after it
 pub has_live-step : (flags : List Bool) (b : List (Option ℕ)) (p : ℕ) → p < length b → has_live flags (drop p b) ≡ (is_at_live flags (object_at b p) || has_live flags (drop (p + 1) b))
 has_live-step flags [] p h = absurd (omega arith)
 has_live-step flags (None ∷ b) zero h = refl
@@ -69,7 +69,7 @@ has_live-end flags [] (suc p) h = refl
 has_live-end flags (x ∷ b) zero h = absurd (omega arith)
 has_live-end flags (x ∷ b) (suc p) h = has_live-end flags b p (omega arith)
 
--- the same, as the loop goes: p is the parameter behind the one that it looks at
+-- the same, as the loop goes: p is the parameter after the one that it looks at
 pub dead_mask-before : (flags : List Bool) (b : List (Option ℕ)) (p bit dead : ℕ) → bit ≡ cond (is_at_dead flags (object_at b (p - 1))) 1 0
     → dead ≡ dead_mask_of flags (drop p b) → 0 < p → p ≤ length b → dead_mask_of flags (drop (p - 1) b) ≡ 2 * dead + bit
 dead_mask-before flags b p bit dead is was low within =

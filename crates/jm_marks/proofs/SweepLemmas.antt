@@ -23,7 +23,7 @@ module _ {X : Type 0} where
   got_at [] rest y = refl
   got_at (x ∷ front) rest y = got_at front rest y
 
-  -- what stands behind the first place, after the first is removed
+  -- what stands after the first place, after the first is removed
   behind : (x : X) (rest : List X) → IsPermutation rest (swap_remove (x ∷ rest) 0 x)
   behind x [] = IsPermutation-refl []
   behind x (z ∷ zs) =
@@ -46,7 +46,7 @@ module _ {X : Type 0} where
       let some : length (front ++ x ∷ rest) ≡ suc (length front + length rest) = omega (arith, length-append front (x ∷ rest)) in
       removed_later y (front ++ x ∷ rest) (length front) (length front + length rest) x some ∙ ap (λ (v : List X). y ∷ v) (removed_behind front x rest)
 
-  -- The list after the places from this one on were swept: in front of it what was there, and behind it what passes the
+  -- The list after the places from this one on were swept: in front of it what was there, and after it what passes the
   -- test of what was there.
   pub record IsSweptTo (test : X → Bool) (old new : List X) (place : ℕ) : Type 0 where
     pub front : List X

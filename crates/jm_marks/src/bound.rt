@@ -19,7 +19,7 @@ pub(crate) fn first_object(binding: &Binding) -> Option<u32>
 /// A number of parameters that a mask has room in.
 pub(crate) fn room_for(mask: u8) -> u8
     ensures room { mask < 2 ^ result }
-    ensures few { result ≤ 8 }
+    ensures bounded { result ≤ 8 }
 {
     if mask < 2 {
         return mask;

@@ -3,10 +3,10 @@
 use jm_model::Binding;
 use std::alloc::Global;
 
-/// So many objects more than there are have room for a hint.
+/// The number of objects beyond those that there are which have room for a hint.
 const AHEAD: u64 = 64;
 
-/// For so many objects there are hints at most.
+/// The number of objects up to which there are hints.
 const MOST: u64 = 65_536 + AHEAD;
 
 /// A place for each object, in their order.

@@ -14,8 +14,8 @@ use jm_objects::Objects;
 use std::alloc::Global;
 use std::marker::Model;
 
-/// Distinct bindings. Contracts see them as a list, and a number beside it, `spare`: so many calls of `add`
-/// can be made at least before memory is wanted again.
+/// Distinct bindings. Contracts see them as a list, and a number beside it, `spare`: the count of calls
+/// of `add` that can be made at least before memory is wanted again.
 #[derive(Drop)]
 pub struct Marks {
     singles: Singles,
@@ -187,7 +187,7 @@ impl Marks {
 fn list_mask(masks: &mut Vec<u8>, mask: u8)
     requires { vec_len masks.old < vec_capacity masks.old }
     ensures kept { (m : ℕ) → Contains masks.old.items m → Contains masks.new.items m }
-    ensures there { Contains masks.new.items mask }
+    ensures present { Contains masks.new.items mask }
     ensures room { vec_len masks.new + vec_capacity masks.old ≤ vec_capacity masks.new + vec_len masks.old + 1 }
 {
     if !masks.contains(&mask) {

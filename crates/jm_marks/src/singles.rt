@@ -11,7 +11,7 @@ use jm_objects::Objects;
 use std::alloc::{AllocError, Global};
 use std::marker::Model;
 
-/// So many objects more than there are have room for a byte.
+/// The number of objects beyond those that there are which have room for a byte.
 const AHEAD: u64 = 64;
 
 /// Objects from this number on have no byte.
@@ -146,12 +146,12 @@ impl Singles {
     }
 }
 
-/// Makes room for the bytes of so many words of objects, if there is memory: those that are added are 0.
+/// Makes room for the bytes of the given number of words of objects, if there is memory: those that are added are 0.
 fn extend(bytes: &mut Vec<u8>, gone: &mut Vec<u64>, count: usize)
-    requires few { count < 1000000 }
+    requires bounded { count < 1000000 }
     requires gone { AreGone bytes.old.items gone.old.items }
     ensures gone { AreGone bytes.new.items gone.new.items }
-    ensures same { singles_of bytes.new.items ≡ singles_of bytes.old.items }
+    ensures unchanged { singles_of bytes.new.items ≡ singles_of bytes.old.items }
 {
     if count > gone.len() && gone.resize(count, 0).is_ok() {
         let _ = bytes.resize(count * WORD, 0);
@@ -176,14 +176,14 @@ fn drop_all(bytes: &mut Vec<u8>, gone: &mut Vec<u64>, objects: &Objects)
 
 /// Clears the bytes of the dead among 64 objects. Where a bit of `left` is 0 there is nothing to clear.
 fn drop_among(bytes: &mut Vec<u8>, gone: &mut Vec<u64>, objects: &Objects, index: usize, left: u64)
-    requires there { index < length gone.old.items }
+    requires in_range { index < length gone.old.items }
     requires gone { AreGone bytes.old.items gone.old.items }
     requires left { (k : ℕ) → k < 64 → bit_at left k ≡ 0
         → AreDropped objects.now bytes.old.items bytes.old.items (index * 64 + k) }
     ensures gone { AreGone bytes.new.items gone.new.items }
     ensures size { length bytes.new.items ≡ length bytes.old.items }
     ensures words { length gone.new.items ≡ length gone.old.items }
-    ensures here { (o : ℕ) → o / 64 ≡ index → AreDropped objects.now bytes.old.items bytes.new.items o }
+    ensures dropped { (o : ℕ) → o / 64 ≡ index → AreDropped objects.now bytes.old.items bytes.new.items o }
     ensures elsewhere { (o : ℕ) → o / 64 ≢ index → slice_index bytes.new.items o ≡ slice_index bytes.old.items o }
 {
     let mut left = left;
@@ -206,12 +206,12 @@ fn is_gone(objects: &Objects, object: usize) -> bool
 
 /// Clears the byte of an object, if it has one.
 fn clear(bytes: &mut Vec<u8>, gone: &mut Vec<u64>, object: usize)
-    requires there { object / 64 < length gone.old.items }
+    requires in_range { object / 64 < length gone.old.items }
     requires gone { AreGone bytes.old.items gone.old.items }
     ensures gone { AreGone bytes.new.items gone.new.items }
     ensures size { length bytes.new.items ≡ length bytes.old.items }
     ensures words { length gone.new.items ≡ length gone.old.items }
-    ensures here { slice_index bytes.new.items object ≡ 0 }
+    ensures at_key { slice_index bytes.new.items object ≡ 0 }
     ensures elsewhere { (o : ℕ) → o ≢ object → slice_index bytes.new.items o ≡ slice_index bytes.old.items o }
 {
     if object < bytes.len() {

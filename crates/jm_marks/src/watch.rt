@@ -10,16 +10,16 @@ use jm_objects::Objects;
 use std::alloc::{AllocError, Global};
 use std::marker::Model;
 
-/// So many marks are passed over at once.
+/// The number of marks that are passed over at once.
 pub(crate) const GROUP: usize = 16;
 
-/// So many objects more than there are have room for a flag.
+/// The number of objects beyond those that there are which have room for a flag.
 const AHEAD: usize = 64;
 
 /// Objects from this number on have no flags.
 const MOST: u64 = 16_777_216;
 
-/// So many objects have their flags in one word.
+/// The number of objects that have their flags in one word.
 pub(crate) const WORD: usize = 64;
 
 /// A spot for each mark, by its place: one more than an object that it binds, or 0.
@@ -126,7 +126,7 @@ impl Watch {
         let _ = self.spots.swap_remove(place);
     }
 
-    /// Sets the flags as the objects are, where marks are so many that this pays, and answers whether it did.
+    /// Sets the flags as the objects are, where there are enough marks that this pays, and answers whether it did.
     pub(crate) fn refresh(&mut self, objects: &Objects) -> bool
         ensures spots { self.new.spots ≡ self.old.spots }
         ensures fresh { IsTrue result → AreFresh objects.now self.new.flags }
@@ -175,10 +175,10 @@ fn spot(object: Option<u32>, room: u32) -> u32
     }
 }
 
-/// Makes the flags those of so many words at least, if there is memory, and answers whether they are: the new ones are
-/// 1.
+/// Makes the flags those of at least the given number of words, if there is memory, and answers whether they are: the
+/// new ones are 1.
 fn extend(flags: &mut Vec<u8>, words: &mut Vec<u64>, count: usize) -> bool
-    requires few { count < 1000000000 }
+    requires bounded { count < 1000000000 }
     requires flags { AreFlags flags.old.items words.old.items }
     ensures flags { AreFlags flags.new.items words.new.items }
     ensures more { length flags.old.items ≤ length flags.new.items }

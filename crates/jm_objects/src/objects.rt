@@ -25,7 +25,7 @@ impl Model for Objects {
 }
 
 impl Objects {
-    /// So many live objects.
+    /// The given number of live objects.
     pub fn new(alloc: Global, n: u32) -> Result<Objects, AllocError>
         ensures { IfOk result (λ objects. objects ≡ replicate n false) }
     {

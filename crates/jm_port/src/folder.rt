@@ -45,5 +45,5 @@ pub trait Folder {
             → IfSome (holds self.old name.now) (λ held. limit < length held) }
         ensures failed { result ≡ Err LoadFault.Failed → HasRisen (faults self.old) (faults self.new) }
         ensures never_falls { faults self.old ≤ faults self.new }
-        ensures same { (other : List ℕ) → holds self.new other ≡ holds self.old other };
+        ensures unchanged { (other : List ℕ) → holds self.new other ≡ holds self.old other };
 }

@@ -23,7 +23,7 @@ name-same names j k h here there same = h.distinct j k (name_of names j) (name-a
 pub pair_text-cons : (l : Lexicon) (p o : ℕ) (rest : List ℕ) → pair_text l p o ++ rest ≡ name_of l.parameters p ++ 61 ∷ (name_of l.objects o ++ rest)
 pair_text-cons l p o rest = simp append_assoc
 
--- what may stand behind a pair
+-- what may stand after a pair
 abbrev pub IsTail : List ℕ → Type 0
 IsTail [] = Unit {0}
 IsTail (c ∷ cs) = c ≡ 44
@@ -80,7 +80,7 @@ same_first l p q s t h here there same =
     (name-lacks_equals (name_of l.parameters q) (name-plain l.parameters q h.parameters there)) same in
     (name-same l.parameters p q h.parameters here there parts.0, parts.1)
 
--- a pair and what stands behind it
+-- a pair and what stands after it
 pair-same : (l : Lexicon) (p o q : ℕ) (r s : List ℕ) → HasNames l → p < length l.parameters → o < length l.objects → q < length l.objects → IsTail r → IsTail s
     → pair_text l p o ++ r ≡ pair_text l p q ++ s → (o ≡ q) × (r ≡ s)
 pair-same l p o q r s h named one other i j same =

@@ -50,7 +50,7 @@ AreDigits (c ∷ cs) = (48 ≤ c) × (c < 58) × AreDigits cs
 glyph-digit : (d : ℕ) (ds : List ℕ) → d < 10 → AreDigits ds → AreDigits (digit_glyph false d ∷ ds)
 glyph-digit d ds small h = rw (lt-ltb d 10 small) (omega arith, omega arith, h)
 
--- the last digits of any number, and digits behind them
+-- the last digits of any number, and digits after them
 onto-digits : (k n : ℕ) (ds : List ℕ) → AreDigits ds → AreDigits (digits_onto k 10 false n ds)
 onto-digits zero n ds h = h
 onto-digits (suc k) n ds h =

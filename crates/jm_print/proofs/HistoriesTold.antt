@@ -79,7 +79,7 @@ pub printable_firings : (l : Lexicon) (fs : List Firing) → All (IsPrintableFir
 printable_firings l [] all = tt
 printable_firings l (f ∷ fs) all = (all 0 f (omega arith), printable_firings l fs (λ k d within. all (suc k) d (omega arith)))
 
--- what may stand behind the lines of firings: a text that begins with no space, as each of them does
+-- what may stand after the lines of firings: a text that begins with no space, as each of them does
 abbrev IsBehindFirings : List ℕ → Type 0
 IsBehindFirings [] = ⊥
 IsBehindFirings (c ∷ cs) = c ≢ 32
@@ -144,7 +144,7 @@ row_of l Pass (Refused o) h = absurd h
 row_of l Pass Done h = absurd h
 row_of l Pass NoMemory h = absurd h
 
--- the first word of a row, the second, and what stands behind
+-- the first word of a row, the second, and what stands after
 abbrev first_word : Lexicon → Row → List ℕ
 first_word l (fired e b fs) = name_of l.events e.0
 first_word l (unfired e b o) = name_of l.events e.0
@@ -211,7 +211,7 @@ record Alike (l : Lexicon) (r q : Row) (s t : List ℕ) : Type 0 where
 opposite : (l : Lexicon) (r q : Row) (s t : List ℕ) → Alike l r q s t → Alike l q r t s
 opposite l r q s t a = record { first = sym a.first; second = sym a.second; last = sym a.last }
 
--- the same row, with the same text behind
+-- the same row, with the same text after
 abbrev IsSame : Row → Row → List ℕ → List ℕ → Type 0
 IsSame r q s t = (r ≡ q) × (s ≡ t)
 
@@ -339,7 +339,7 @@ number-behind : (ds rest : List ℕ) → AreDigits ds → IsBehindFirings (ds ++
 number-behind [] rest h = apart 58 32 refl
 number-behind (c ∷ cs) rest h = λ same. absurd (omega (arith, same, h.0))
 
--- behind an entry's lines stands another entry or the last line
+-- after an entry's lines stands another entry or the last line
 entries-behind : (l : Lexicon) (h : List Entry) (s : List ℕ) → IsBehindFirings (flat_map (entry_text l) h ++ 101 ∷ s)
 entries-behind l [] s = apart 101 32 refl
 entries-behind l (x ∷ h) s =

@@ -54,7 +54,7 @@ names_more (x ∷ names) name =
     ∙ sym (append_assoc x (later_names names) (codes "," ++ name))
     ∙ sym (append_assoc (x ++ later_names names) (codes ",") name)
 
--- a name was written behind others
+-- a name was written after others
 pub name_written : (names : List (List ℕ)) (name before page after : List ℕ) (first : Bool)
     → first ≡ is_empty names → page ≡ before ++ name_list names
     → after ≡ page ++ (if first then [] else codes ",") ++ name
@@ -66,7 +66,7 @@ name_written names name before page after first none so_far written =
     ∙ ap (λ t. t ++ name) (append_assoc before listed lead) ∙ append_assoc before (listed ++ lead) name
     ∙ ap (λ t. before ++ t) (sym (names_more names name))
 
--- a list with a name behind it isn't empty
+-- a list with a name after it isn't empty
 pub some_name : (names : List (List ℕ)) (name : List ℕ) → false ≡ is_empty (names ++ name ∷ [])
 some_name [] name = refl
 some_name (x ∷ names) name = refl

@@ -118,7 +118,7 @@ codes-lack (c ∷ cs) e = go (codes-lack cs) (c == 10) refl e
 decimal-feedless : (n : ℕ) → Lacks 10 (decimal n)
 decimal-feedless n = digits-lack (decimal n) 10 (inl (omega arith)) (decimal-digits n)
 
--- what a row says up to the end of its line, and the lines behind that
+-- what a row says up to the end of its line, and the lines after that
 abbrev body : Lexicon → Row → List ℕ
 body l (fired e b fs) = name_of l.events e.0 ++ 32 ∷ (binding_text l b ++ (codes " fired " ++ decimal (length fs)))
 body l (unfired e b o) = name_of l.events e.0 ++ 32 ∷ (binding_text l b ++ (codes " refused " ++ name_of l.objects o))
@@ -155,7 +155,7 @@ number-stays : (ds rest : List ℕ) → AreDigits ds → stays (ds ++ 58 ∷ res
 number-stays [] rest h = refl
 number-stays (c ∷ cs) rest h = rw (ne_eqb 32 c (λ same. absurd (omega (arith, same, h.0)))) refl
 
--- an entry's line, behind it whatever follows
+-- an entry's line, after it whatever follows
 abbrev headed : ℕ → ℕ → List ℕ → List ℕ
 headed caller line text = decimal caller ++ 58 ∷ (decimal line ++ 32 ∷ text)
 
@@ -205,7 +205,7 @@ entries-stay l (x ∷ h) rest names told =
     ∙ ap (λ t. entry_text l x ++ t) (entries-stay l h rest names told.1) ∙ sym (append_assoc (entry_text l x) (flat_map (entry_text l) h) (unmarked rest))
 
 -- ---- whole texts
--- a line break ends a line, whatever is behind it
+-- a line break ends a line, whatever is after it
 stays-front : (front rest : List ℕ) → stays (front ++ 10 ∷ rest) ≡ stays (front ++ 10 ∷ [])
 stays-front [] rest = refl
 stays-front (a ∷ []) rest = refl

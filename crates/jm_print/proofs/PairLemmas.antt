@@ -83,7 +83,7 @@ none_later l p [] past names = refl
 none_later l p (None ∷ b) past names = none_later l (p + 1) b (omega (arith, past)) names
 none_later l p (Some o ∷ b) past names = absurd (omega (arith, past, names.0))
 
--- nothing is to come behind the last parameter, if some pair was written
+-- nothing is to come after the last parameter, if some pair was written
 pub at_end : (first : Bool) (l : Lexicon) (p : ℕ) (b : Binding) (page all : List ℕ) → length l.parameters ≤ p → HasNamesFrom l p (drop p b) → (first ≡ true → mask_of (drop p b) ≢ 0) → page ++ rest_text first l p (drop p b) ≡ all → page ≡ all
 at_end true l p b page all past names some so_far = absurd (some refl (past_names l p (drop p b) past names))
 at_end false l p b page all past names some so_far = sym (append-nil page) ∙ ap (λ t. page ++ t) (sym (none_later l p (drop p b) past names)) ∙ so_far

@@ -11,7 +11,7 @@ use Rattle.jm_print.proofs.Cutting.{name-lacks_line_feed}
 use Rattle.jm_print.proofs.HistoriesTold.{same_front, entries-same}
 use Rattle.jm_print.proofs.MarkedLines.{entries-stay, unmarked-front, end-stays, title-stays}
 
--- the last line of a text, and what is behind it
+-- the last line of a text, and what is after it
 abbrev ended : List Entry → List ℕ → List ℕ
 ended h s = 101 ∷ (codes "nd " ++ (decimal (length h) ++ 10 ∷ s))
 

@@ -4,7 +4,7 @@ use Rattle.std.specs.List.{flat_map}
 use Rattle.std.specs.Int.{bit_at}
 use Rattle.jm_model.specs.Words.{Text, Mask}
 
--- names, each behind a comma
+-- names, each after a comma
 abbrev pub later_names : List Text → Text
 later_names names = flat_map (λ name. codes "," ++ name) names
 

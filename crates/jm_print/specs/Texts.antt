@@ -16,7 +16,7 @@ use Rattle.jm_print.specs.Lexicons.{Lexicon, name_of, statements_of}
 abbrev pub pair_text : Lexicon → ℕ → ℕ → Text
 pair_text l p o = name_of l.parameters p ++ codes "=" ++ name_of l.objects o
 
--- the pairs of the parameters from p on, each behind a comma
+-- the pairs of the parameters from p on, each after a comma
 abbrev pub later_pairs_text : Lexicon → ℕ → Binding → Text
 later_pairs_text l p [] = []
 later_pairs_text l p (None ∷ b) = later_pairs_text l (p + 1) b

@@ -92,7 +92,7 @@ fn events(page: &mut Page, table: &EventTable) -> Result<(), NoMemory>
 
 /// An event with its parameters.
 fn event(page: &mut Page, table: &EventTable, letter: Letter) -> Result<(), NoMemory>
-    requires there { letter.0 < length table.now.events }
+    requires in_range { letter.0 < length table.now.events }
     requires fits { letter.0 < 32 }
     ensures { OnOk result ((e : EventDefinition) → slice_get table.now.events letter.0 ≡ Some e →
         page.new ≡ page.old ++ event_line table.now.parameters e) }

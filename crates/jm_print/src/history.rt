@@ -17,7 +17,7 @@ use jm_model::{Binding, Firing, Firings, Letter, NoMemory, Outcome, Step};
 use std::alloc::Global;
 use std::marker::Model;
 
-/// So many pieces tell about how long the text of all of them is, by so many of their first entries.
+/// How many pieces tell about how long the text of all of them is, and by how many of their first entries.
 const SAMPLES: usize = 64;
 
 const FIRST: usize = 16;
@@ -41,7 +41,7 @@ impl<'a> Model for Printer<'a> {
 }
 
 /// The text of a history: its specification, a line for each entry and for each handler that ran, with the lines that
-/// the handler prints behind it, and how many entries there are. No entry may be out of memory, and each letter,
+/// the handler prints after it, and how many entries there are. No entry may be out of memory, and each letter,
 /// parameter, handler and object has its name. The handlers stand in the order of their categories; one that isn't
 /// there prints nothing.
 pub fn render_history(
@@ -153,10 +153,10 @@ impl Printer<'_> {
         self.entries(page, piece, piece.len())
     }
 
-    /// The first entries of a piece, so many.
+    /// The first entries of a piece, up to the given count.
     fn entries(&self, page: &mut Page, piece: &Piece, count: usize) -> Result<(), NoMemory>
         requires printable { All (IsPrintable self.now) piece.now }
-        requires there { count ≤ length piece.now }
+        requires in_range { count ≤ length piece.now }
         ensures { OnOk result (page.new
             ≡ page.old ++ flat_map (full_entry_text self.now) (take count piece.now)) }
     {
@@ -170,7 +170,7 @@ impl Printer<'_> {
     #[inline(always)]
     fn entry_at(&self, page: &mut Page, piece: &Piece, i: usize) -> Result<(), NoMemory>
         requires printable { All (IsPrintable self.now) piece.now }
-        requires there { i < length piece.now }
+        requires in_range { i < length piece.now }
         ensures { OnOk result ((x : Entry) → slice_get piece.now i ≡ Some x
             → page.new ≡ page.old ++ full_entry_text self.now x) }
     {
@@ -185,7 +185,7 @@ impl Printer<'_> {
     #[inline(never)]
     fn other_at(&self, page: &mut Page, piece: &Piece, i: usize) -> Result<(), NoMemory>
         requires printable { All (IsPrintable self.now) piece.now }
-        requires there { i < length piece.now }
+        requires in_range { i < length piece.now }
         ensures { OnOk result ((x : Entry) → slice_get piece.now i ≡ Some x
             → page.new ≡ page.old ++ full_entry_text self.now x) }
     {
@@ -406,7 +406,7 @@ impl Printer<'_> {
         Ok(())
     }
 
-    /// A parameter with its object, behind a comma where it isn't the first.
+    /// A parameter with its object, after a comma where it isn't the first.
     #[inline(always)]
     fn pair(&self, page: &mut Page, first: bool, p: u8, object: u32) -> Result<(), NoMemory>
         requires { (p < length self.now.parameters) × (object < length self.now.objects) }

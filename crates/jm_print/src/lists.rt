@@ -62,7 +62,7 @@ fn has(mask: u8, p: u8) -> bool
     mask >> p & 1 == 1
 }
 
-/// A name, behind a comma where it isn't the first.
+/// A name, after a comma where it isn't the first.
 pub(crate) fn name(page: &mut Page, first: bool, name: &str) -> Result<(), NoMemory>
     ensures { OnOk result (page.new ≡ page.old ++ (if first then [] else codes ",") ++ name.now) }
 {

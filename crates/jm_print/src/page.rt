@@ -32,7 +32,7 @@ impl Page {
         }
     }
 
-    /// Makes room for so many bytes more, if there is memory.
+    /// Makes room for the given number of further bytes, if there is memory.
     pub(crate) fn make_room(&mut self, bytes: usize)
         ensures { self.new ≡ self.old }
     {
@@ -70,7 +70,7 @@ impl Page {
         Ok(self.bytes.push(byte)?)
     }
 
-    /// Writes a parameter with its object, behind a comma where it isn't the first.
+    /// Writes a parameter with its object, after a comma where it isn't the first.
     #[inline(always)]
     pub(crate) fn pair(
         &mut self,
@@ -111,7 +111,7 @@ impl Page {
         self.text(buffer.format(number))
     }
 
-    /// Writes a caller and a line of its script, with what stands behind each.
+    /// Writes a caller and a line of its script, with what stands after each.
     #[inline(always)]
     pub(crate) fn place(&mut self, caller: u32, line: u32) -> Result<(), NoMemory>
         ensures { OnOk result (self.new
@@ -148,7 +148,7 @@ impl Page {
     }
 }
 
-/// Puts a text that is often very short behind bytes that have room for it.
+/// Puts a text that is often very short after bytes that have room for it.
 #[inline(always)]
 fn put_word(bytes: &mut Vec<u8>, word: &[u8])
     requires { vec_len bytes.old + length word.now ≤ vec_capacity bytes.old }

@@ -73,7 +73,7 @@ few_vectors [] = omega arith
 few_vectors (None ∷ os) = omega (arith, few_vectors os)
 few_vectors (Some v ∷ os) = omega (arith, few_vectors os)
 
--- behind the start there are only vectors
+-- after the start there are only vectors
 all_but_one : (os : List (Option ℕ)) → slice_get os 0 ≡ Some None → IsWithoutRepeats os → length os ≡ length (vectors_of os) + 1
 all_but_one [] start distinct = absurd (cc)
 all_but_one (None ∷ os) start distinct = omega (arith, most_vectors (None ∷ os) distinct, few_vectors os)
@@ -99,7 +99,7 @@ place_is (None ∷ os) (suc k) v h = place_is os k v h
 place_is (Some w ∷ os) zero v h = let e : w ≡ v = cc in elim (eqb_tells w v) [ inl same ↦ rw same.0 (ap (λ x. Some (Some x)) e) | inr other ↦ absurd (other.1 e) ]
 place_is (Some w ∷ os) (suc k) v h = elim (eqb_tells w v) [ inl same ↦ rw same.0 (ap (λ x. Some (Some x)) same.1) | inr other ↦ rw other.0 (place_is os k v h) ]
 
--- vectors that stand in a list behind its start are fewer than the list has items
+-- vectors that stand in a list after its start are fewer than the list has items
 module _ (nodes : List (Option ℕ)) (start : slice_get nodes 0 ≡ Some None) where
   places_differ : (vs : List ℕ) → ((k v : ℕ) → slice_get vs k ≡ Some v → slice_get nodes (place_of nodes v) ≡ Some (Some v)) → IsWithoutRepeats vs → IsDistinct eqb (map (place_of nodes) vs)
   unfolding IsDistinct

@@ -21,7 +21,7 @@ grouped-push (x ∷ fs) f g = ap (λ y. binary Implies x y) (grouped-push fs f g
 
 -- ---- what a rule reads, its tokens spell
 
--- these tokens at the front spell it, and the others are behind
+-- these tokens at the front spell it, and the others are after
 abbrev Cut : List ℕ → ℕ → List Token → List Token → Formula Token → Type 0
 Cut bytes k tokens behind f = (first : List Token) × (tokens ≡ first ++ behind) × SpellsAt bytes k first f
 
@@ -43,7 +43,7 @@ module _ (bytes : List ℕ) where
   closed_read Close f g ts behind h = let p = pair_same f g ts behind h in (refl, p.0, p.1)
   closed_read Other f g ts behind h = absurd (cc)
 
-  -- a formula and the ")" behind it
+  -- a formula and the ")" after it
   closed_sound : (opening : Token) → class_of bytes opening ≡ Open → (ts rest behind : List Token) (f g : Formula Token) → Cut bytes 6 ts rest g → closed_at bytes g rest ≡ Some (f, behind) → Cut bytes zero (opening ∷ ts) behind f
   closed_sound opening is ts [] behind f g cut h = absurd (cc)
   closed_sound opening is ts (t ∷ rest) behind f g cut h =
@@ -144,7 +144,7 @@ module _ (bytes : List ℕ) where
       | inr end ↦ ([], end.2, subst (λ l. SpellsAt bytes (suc k) l g) (sym (append-nil before)) (subst (λ x. SpellsAt bytes (suc k) before x) end.1 left))
     ]
 
-    -- formulas with `=>` between them, and these tokens: a formula behind them groups with them to the right
+    -- formulas with `=>` between them, and these tokens: a formula after them groups with them to the right
     abbrev Leads : List Token → List (Formula Token) → Type 0
     Leads before fs = (rest : List Token) (g : Formula Token) → SpellsAt bytes (suc k) rest g → SpellsAt bytes (suc k) (before ++ rest) (grouped fs g)
 
@@ -182,7 +182,7 @@ module _ (bytes : List ℕ) where
       | inr end ↦ ([], end.2, subst (λ (z : Chain). SpellsAt bytes (suc k) (before ++ (last ++ [])) (grouped z.0 z.1)) end.1 (leads (last ++ []) x.1 (alone (subst (λ l. SpellsAt bytes k l x.1) (sym (append-nil last)) spelled))))
     ]
 
-    -- a part and what stands behind it
+    -- a part and what stands after it
     whole_sound : (tokens rest behind : List Token) (f g : Formula Token) → Cut bytes k tokens rest f → cond (eqb k 4) (implied_at bytes part f rest) (more_at bytes part (suc k) f rest) ≡ Some (g, behind) → Cut bytes (suc k) tokens behind g
     whole_sound tokens rest behind f g cut h = elim (one_of (eqb k 4) (implied_at bytes part f rest) (more_at bytes part (suc k) f rest) (g, behind) h) [
       | inl implies ↦
@@ -221,21 +221,21 @@ module _ (bytes : List ℕ) where
 
   -- ---- what the tokens spell is read
 
-  -- what stands behind is no operator of a rank up to this one
+  -- what stands after is no operator of a rank up to this one
   abbrev Ends : ℕ → List Token → Type 0
   Ends k behind = (rank : ℕ) → rank ≤ k → begins bytes rank behind ≡ false
 
   ends_less : (j k : ℕ) (behind : List Token) → j ≤ k → Ends k behind → Ends j behind
   ends_less j k behind le ends rank low = ends rank (omega (arith, low, le))
 
-  -- behind an operator of a rank
+  -- after an operator of a rank
   ends_at : (t : Token) (ts : List Token) (op : Binary) (j : ℕ) → class_of bytes t ≡ Infix op → rank_of op ≡ suc j → Ends j (t ∷ ts)
   ends_at t ts op j is rank r low = ap (λ c. is_infix r c) is ∙ (elim (eqb_tells (rank_of op) r) [ inl same ↦ absurd (omega (arith, same.1, rank, low)) | inr differs ↦ differs.0 ])
 
   begins_at : (t : Token) (ts : List Token) (op : Binary) (j : ℕ) → class_of bytes t ≡ Infix op → rank_of op ≡ suc j → begins bytes (suc j) (t ∷ ts) ≡ true
   begins_at t ts op j is rank = ap (λ c. is_infix (suc j) c) is ∙ (elim (eqb_tells (rank_of op) (suc j)) [ inl same ↦ same.0 | inr differs ↦ absurd (differs.1 rank) ])
 
-  -- behind a ")"
+  -- after a ")"
   ends_closed : (t : Token) (ts : List Token) (k : ℕ) → class_of bytes t ≡ Close → Ends k (t ∷ ts)
   ends_closed t ts k is r low = ap (λ c. is_infix r c) is
 
@@ -247,7 +247,7 @@ module _ (bytes : List ℕ) where
     goes : (n : ℕ) (x y : X) (tokens behind : List Token) → goes_on tokens ≡ true → item x tokens ≡ Some (y, behind) → at_most goes_on item (suc n) x tokens ≡ at_most goes_on item n y behind
     goes n x y tokens behind h some = rw (h, some) refl
 
-  -- the formula is read, and what stands behind it is left
+  -- the formula is read, and what stands after it is left
   abbrev Reads : ℕ → List Token → Formula Token → Type 0
   Reads k first f = (n : ℕ) (behind : List Token) → Ends k behind → length (first ++ behind) ≤ n → part_at bytes (formula_from bytes n) k (first ++ behind) ≡ Some (f, behind)
 

@@ -56,7 +56,7 @@ unfolding atom_at
 atom_here bytes inner [] h = refl
 atom_here bytes inner (t ∷ ts) h = no_prefix (class_of bytes t) _ _ h
 
--- operators, and the atom behind them
+-- operators, and the atom after them
 module _ (bytes : List ℕ) (inner : List Token → Option Read) (start rest : List Token) (ops : List Unary) (reads : operand_at bytes inner start ≡ over_all ops (operand_at bytes inner rest)) (end : is_prefix (class_at bytes rest) ≡ false) where
   pub operand_adds : (before nodes after : List (Node Token)) (left : List Token) → AddsNodes before nodes left (atom_at bytes inner rest) → after ≡ nodes ++ behind_all ops → AddsNodes before after left (operand_at bytes inner start)
   operand_adds before nodes after left h e = (
@@ -121,7 +121,7 @@ module _ (bytes : List ℕ) (inner : List Token → Option Read) (start rest : L
 
 -- ---- operators of a rank, to the left
 
--- the formula so far, behind these nodes
+-- the formula so far, after these nodes
 pub record JoinsLeft (bytes : List ℕ) (n k : ℕ) (start : List Token) (before : List (Node Token)) (rest : List Token) (nodes : List (Node Token)) : Type 0 where
   pub first : Formula Token
   pub behind : List Token
@@ -158,7 +158,7 @@ module _ (bytes : List ℕ) (n k : ℕ) (start : List Token) (before : List (Nod
 
 -- ---- `=>`, to the right
 
--- the formulas so far, behind these nodes
+-- the formulas so far, after these nodes
 pub record ChainLeft (bytes : List ℕ) (n : ℕ) (start : List Token) (before : List (Node Token)) (rest : List Token) (nodes : List (Node Token)) (starts : List ℕ) : Type 0 where
   pub first : Formula Token
   pub behind : List Token
@@ -218,7 +218,7 @@ gives_all bytes tokens (t ∷ ts) nodes after none end h = absurd (omega (arith,
 
 -- ---- calls
 
--- a call that adds nodes behind those of a formula, or lacks memory
+-- a call that adds nodes after those of a formula, or lacks memory
 pub adds_more : {X : Type 0} (r : Result X SpecError) (before after target : List (Node Token)) (left here : List Token) (read : Option Read) → OnOk r (after ≡ target) → IfErr r (λ e. e ≡ NoMemory) → AddsNodes before target left read → here ≡ left → Adds r before after here read
 adds_more (Ok x) before after target left here read ok err h e = (h.0, h.1 ∙ ap (λ l. Some (h.0, l)) (sym e), ok ∙ h.2)
 adds_more (Err e) before after target left here read ok err h same = subst (λ x. FailsAt x read) (sym err) tt

@@ -119,7 +119,7 @@ module _ (word : List ℕ) (n : ℕ) where
   none_more : (v place : ℕ) (b : Bool) → place < 64 → NoneFrom v place → NoneFrom (with_bit v place b) (place + 1)
   none_more v place b lt none k le = other_bit v place b k lt (λ e. omega (arith, e, le)) ∙ none k (omega (arith, le))
 
-  -- one node more behind the parts of an operator
+  -- one node more after the parts of an operator
   ends : (last : Option ℕ) (letter place v : ℕ) (x : Node Letter) (rest : List (Node Letter)) → vector_from last letter place v (x ∷ rest) ≡ vector_from last letter (place + 1) (with_bit v place (node_truth last letter place v x)) rest
   ends last letter place v x rest = refl
 

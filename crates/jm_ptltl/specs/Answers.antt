@@ -9,11 +9,11 @@ use Rattle.jm_ptltl.specs.declared.formula.Node.{Node}
 use Rattle.jm_ptltl.specs.Formulas.{Formula, postfix}
 use Rattle.jm_ptltl.specs.Rules.{Read, Reader, formula_from}
 
--- the formula that is read stands behind these nodes, and these tokens are left
+-- the formula that is read stands after these nodes, and these tokens are left
 abbrev pub AddsNodes : List (Node Token) → List (Node Token) → List Token → Option Read → Type 0
 AddsNodes before after left read = (f : Formula Token) × (read ≡ Some (f, left)) × (after ≡ before ++ postfix f)
 
--- it adds the nodes of what the grammar reads behind these, and leaves these tokens
+-- it adds the nodes of what the grammar reads after these, and leaves these tokens
 abbrev pub Adds : {X : Type 0} → Result X SpecError → List (Node Token) → List (Node Token) → List Token → Option Read
     → Type 0
 Adds (Ok x) before after left read = AddsNodes before after left read
@@ -31,7 +31,7 @@ abbrev pub AddsBy : {X : Type 0} → Text → (Reader → Reader) → Result X S
 AddsBy bytes rule r before after tokens left =
     (n : ℕ) → length tokens ≤ n → Adds r before after left (rule (formula_from bytes n) tokens)
 
--- a call takes what the rule reads from the front of what is left, and adds its nodes behind these
+-- a call takes what the rule reads from the front of what is left, and adds its nodes after these
 abbrev pub Takes : {X : Type 0} → Cursor → Result X SpecError → Cursor → (Text → Reader → Reader)
     → List (Node Token) → List (Node Token) → Type 0
 Takes old r new rule before after =

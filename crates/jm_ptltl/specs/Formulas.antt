@@ -13,14 +13,14 @@ pub data Formula (A : Type 0) : Type 0 where
   binary : Binary → Formula A → Formula A → Formula A
 
 module _ {A : Type 0} where
-  -- its subformulas, each behind its parts; each occurrence counts, parentheses don't
+  -- its subformulas, each after its parts; each occurrence counts, parentheses don't
   abbrev pub subformulas : Formula A → List (Formula A)
   subformulas (event e) = event e ∷ []
   subformulas (constant b) = constant b ∷ []
   subformulas (unary op f) = subformulas f ++ unary op f ∷ []
   subformulas (binary op f g) = subformulas f ++ (subformulas g ++ binary op f g ∷ [])
 
-  -- the same as a list of nodes: a unary operator stands directly behind its part, a binary one behind its left and its
+  -- the same as a list of nodes: a unary operator stands directly after its part, a binary one after its left and its
   -- right part, and says how many nodes the right part has
   abbrev pub postfix : Formula A → List (Node A)
   postfix (event e) = Event e ∷ []

@@ -12,7 +12,7 @@ use Rattle.jm_ptltl.specs.Formulas.{Formula, event, constant, unary, binary, pos
 use Rattle.jm_ptltl.specs.Lexicon.{class_of, rank_of}
 use Rattle.jm_reading.specs.Reading.{◌>>=◌, at_most}
 
--- a formula, and the tokens behind it
+-- a formula, and the tokens after it
 abbrev pub Read : Type 0
 Read = Formula Token × List Token
 
@@ -64,7 +64,7 @@ grouped (g ∷ gs) f = binary Implies g (grouped gs f)
 abbrev pub Chain : Type 0
 Chain = List (Formula Token) × Formula Token
 
--- behind a token
+-- after a token
 abbrev pub skip_at : Reader → Reader
 skip_at part [] = None
 skip_at part (t ∷ ts) = part ts
@@ -152,12 +152,12 @@ abbrev pub closing : List ℕ → ℕ → List (Node Token)
 closing [] count = []
 closing (start ∷ starts) count = closing starts count ++ node.Infix Implies (count + length starts - start) ∷ []
 
--- the nodes of formulas one behind the other
+-- the nodes of formulas one after the other
 abbrev pub postfix_all : List (Formula Token) → List (Node Token)
 postfix_all [] = []
 postfix_all (f ∷ fs) = postfix f ++ postfix_all fs
 
--- where each of them ends, behind so many nodes
+-- where each of them ends, after so many nodes
 abbrev pub ends_of : ℕ → List (Formula Token) → List ℕ
 ends_of base [] = []
 ends_of base (f ∷ fs) = (base + length (postfix f)) ∷ ends_of (base + length (postfix f)) fs

@@ -44,9 +44,9 @@ fn add_group(
     requires place { place < 64 }
     requires room { length table.old.groups < 65535 }
     requires states { table.old.states ≡ length nodes.now }
-    requires few { length nodes.now ≤ 1024 }
+    requires bounded { length nodes.now ≤ 1024 }
     ensures group { OnOk result (HasGroup place truth nodes.now table.old table.new) }
-    ensures few { table.old.states ≤ 1024 }
+    ensures bounded { table.old.states ≤ 1024 }
     ensures fault { IfErr result (λ e. e ≡ SpecError.NoMemory) }
 {
     let members = places(alloc, nodes, move |node| says(*node, place, truth))?;

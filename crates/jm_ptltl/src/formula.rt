@@ -30,7 +30,7 @@ pub enum Binary {
     Since,
 }
 
-/// A node of a formula, which stands behind its parts.
+/// A node of a formula, which stands after its parts.
 #[derive(Clone, Copy)]
 pub enum Node<A> {
     /// An event.

@@ -11,7 +11,7 @@ use std::marker::Model;
 /// A past-time formula of at most 64 subformulas. Contracts see it as its `Formula`.
 #[derive(Drop)]
 pub struct Past {
-    /// The subformulas, each behind its parts.
+    /// The subformulas, each after its parts.
     nodes: Vec<Node<Letter>>,
 }
 
@@ -34,7 +34,7 @@ impl Past {
     /// The formula of these nodes.
     pub(crate) fn new(nodes: Vec<Node<Letter>>) -> Past
         requires formula { postfix (formula_of nodes.items) ≡ nodes.items }
-        requires few { length nodes.items ≤ 64 }
+        requires bounded { length nodes.items ≤ 64 }
         ensures { result ≡ formula_of nodes.items }
     {
         Past { nodes }
@@ -51,10 +51,10 @@ impl Past {
         Ok(names)
     }
 
-    /// The subformulas, each behind its parts: at most 64.
+    /// The subformulas, each after its parts: at most 64.
     pub(crate) fn nodes(&self) -> &[Node<Letter>]
         ensures nodes { result.now ≡ postfix self.now }
-        ensures few { length result.now ≤ 64 }
+        ensures bounded { length result.now ≤ 64 }
     {
         self.nodes.as_slice()
     }

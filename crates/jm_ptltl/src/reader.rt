@@ -109,7 +109,7 @@ fn part(cursor: &mut Cursor, rank: u8, nodes: &mut Items<Node<Token>>) -> Result
 #[cycle(formula)]
 fn joined(cursor: &mut Cursor, rank: u8, nodes: &mut Items<Node<Token>>) -> Result<(), SpecError>
     requires some { 0 < rank }
-    requires few { rank ≤ 6 }
+    requires bounded { rank ≤ 6 }
     requires other { rank ≢ 5 }
     ensures reads { Takes cursor.old result cursor.new (λ bytes inner. part_at bytes inner rank) nodes.old nodes.new }
     ensures bytes { cursor.new.bytes.now ≡ cursor.old.bytes.now }
@@ -122,11 +122,11 @@ fn joined(cursor: &mut Cursor, rank: u8, nodes: &mut Items<Node<Token>>) -> Resu
     Ok(())
 }
 
-/// An operator of a rank and its right part, behind its left part.
+/// An operator of a rank and its right part, after its left part.
 #[cycle(formula)]
 fn join(cursor: &mut Cursor, rank: u8, nodes: &mut Items<Node<Token>>) -> Result<(), SpecError>
     requires some { 0 < rank }
-    requires few { rank ≤ 6 }
+    requires bounded { rank ≤ 6 }
     ensures reads { (before : List (Node Token)) (f : Formula Token) → nodes.old ≡ before ++ postfix f →
         Takes cursor.old result cursor.new (λ bytes inner. join_at bytes (part_at bytes inner (rank - 1)) f)
         before nodes.new }
@@ -158,7 +158,7 @@ fn implications(cursor: &mut Cursor, nodes: &mut Items<Node<Token>>) -> Result<(
     close(starts, nodes)
 }
 
-/// An operator `=>` and the part behind it, which begins at the last of the places.
+/// An operator `=>` and the part after it, which begins at the last of the places.
 #[cycle(formula)]
 fn imply(
     cursor: &mut Cursor,
@@ -216,7 +216,7 @@ fn atom(cursor: &mut Cursor, nodes: &mut Items<Node<Token>>) -> Result<(), SpecE
     }
 }
 
-/// A formula and the `)` behind it.
+/// A formula and the `)` after it.
 #[cycle(formula)]
 fn nested(cursor: &mut Cursor, nodes: &mut Items<Node<Token>>) -> Result<(), SpecError>
     ensures reads { Takes cursor.old result cursor.new inside_at nodes.old nodes.new }

@@ -57,7 +57,7 @@ fails_too (Bad _) read whole h k = h
 
 -- ---- the loop of `gather`
 
--- what is left to read, behind what was read, is what the loop began with
+-- what is left to read, after what was read, is what the loop began with
 pub record IsLeft {X : Type 0} (goes : List ℕ → List Token → Bool) (rule : X → Rule X) (start : Cursor) (first : X) (n : ℕ) (rest : Cursor) (x : X) : Type 0 where
   pub bytes : rest.bytes.now ≡ start.bytes.now
   pub whole : at_most (goes start.bytes.now) (λ x. rule x start.bytes.now) n x rest.rest.now ≡ at_most (goes start.bytes.now) (λ x. rule x start.bytes.now) (length start.rest.now) first start.rest.now

@@ -12,7 +12,7 @@ module _ {X : Type 0} (goes : List ℕ → List Token → Bool) (rule : Rule X) 
   abbrev pub IsSoundRule : Type 0
   IsSoundRule = (tokens behind : List Token) (x : X) → rule bytes tokens ≡ Some (x, behind) → (first : List Token) × (tokens ≡ first ++ behind) × SpellsOne first x
 
-  -- what is read behind other items, and the tokens behind it
+  -- what is read after other items, and the tokens after it
   pub record Spelled (xs ys : List X) (tokens behind : List Token) : Type 0 where
     pub inner : List Token
     pub more : List X

@@ -44,7 +44,7 @@ module _ {X : Type 0} where
   if_some true x y h = (refl, cc)
   if_some false x y h = absurd (cc)
 
--- the token at the front, and those behind it
+-- the token at the front, and those after it
 pub record Front (P : Token → Type 0) (tokens : List Token) (behind : List Token) : Type 0 where
   pub token : Token
   pub is : P token

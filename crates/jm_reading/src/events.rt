@@ -24,7 +24,7 @@ pub trait GrammarWords {
 /// No event is named by a word of the grammar.
 pub fn event_names<W: GrammarWords>(table: &EventTable) -> Result<(), SpecError>
     ensures checked { Checks result (reserved_event_fault W.reserved table.now.events) }
-    ensures few { length table.now.events ≤ 32 }
+    ensures bounded { length table.now.events ≤ 32 }
 {
     for letter in 0..table.letters() {
         let letter = Letter(letter);

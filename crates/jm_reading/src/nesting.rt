@@ -14,7 +14,7 @@ const MAX_DEPTH: u32 = 64;
 
 /// How many parentheses are open after a token.
 fn depth_after(bytes: &[u8], depth: u32, token: Token) -> u32
-    requires few { depth ≤ 64 }
+    requires bounded { depth ≤ 64 }
     requires within { LiesWithin bytes.now token }
     ensures { result ≡ depth_after bytes.now depth token }
 {

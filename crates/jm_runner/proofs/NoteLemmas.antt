@@ -253,7 +253,7 @@ module _ {F : Type 0} where
         subst (λ (l : List (ℕ × Step)). HasAbove k p l seat.seen) split
         (subst (λ (m : ℕ). HasAbove k m (above ++ below) seat.seen) (sym one.1) (has_done_above k line.line above below seat.seen own later))
 
-    -- what holds behind a line that was passed, by what held before
+    -- what holds after a line that was passed, by what held before
     module _ (named watches : List (LockModel F)) (caller : ℕ) (script : List ScriptLine) (lines : List SyncLine) (part : TakesPart scripts cuts named caller script lines watches) (i n : ℕ) (line : SyncLine) (there : slice_get lines i ≡ Some line)
         (before middle after : List (SeatModel Entry F)) (earlier : ℕ) (did : HaveDone caller (take earlier script) watches before) (done : HaveDone caller (take n script) watches middle) (keep : KeepOrder before middle) where
       middle_size : length middle ≡ length before

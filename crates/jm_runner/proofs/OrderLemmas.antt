@@ -44,7 +44,7 @@ of_own P k (x ∷ list) h = by_case (x.caller == k) refl h (λ t. of_own P k lis
     by_case true e t rest = All-cons (λ (y : Entry). y.caller ≡ k → P y) x list (λ _. All-head P x (entries_by caller_of k list) t) (rest (All-tail P x (entries_by caller_of k list) t))
     by_case false e t rest = All-cons (λ (y : Entry). y.caller ≡ k → P y) x list (λ same. absurd (differ x.caller k e same)) (rest t)
 
--- the entries that a history has behind a list, which has all from above line p, stand at lines from p on
+-- the entries that a history has after a list, which has all from above line p, stand at lines from p on
 pub left_are_from : (k p : ℕ) (steps : List (ℕ × Step)) (before behind : List Entry) → map line_and_step (entries_by caller_of k (before ++ behind)) ≡ steps → HasAbove k p steps before → AreFrom k p behind
 left_are_from k p steps before behind own has =
     let parts = filter-append (λ (x : Entry). x.caller == k) before behind in
@@ -54,14 +54,14 @@ left_are_from k p steps before behind own has =
     ∙ ap (map line_and_step) (drop-append_seam (entries_by caller_of k before) (entries_by caller_of k behind)) in
     of_own (λ (x : Entry). p ≤ x.line) k behind (of_lines (λ n. p ≤ n) (entries_by caller_of k behind) (rw rest at has.left))
 
--- where each entry of caller j below line q stands behind all that caller k has above line p, the history is in order
+-- where each entry of caller j below line q stands after all that caller k has above line p, the history is in order
 pub gives_order : (history : List Entry) (steps : List (ℕ × Step)) (k p j q : ℕ) → map line_and_step (entries_by caller_of k history) ≡ steps → AreBehind k p steps j q history → StandBefore k p j q history
 gives_order history steps k p j q own behind before rest y e mine late =
     left_are_from k p steps before (y ∷ rest) (ap (λ h. map line_and_step (entries_by caller_of k h)) (sym e) ∙ own) (behind before rest y e mine late)
 
 -- ---- a list that grows
 
--- an element of two lists, one behind the other, stands in the first or in the second
+-- an element of two lists, one after the other, stands in the first or in the second
 parted : {A : Type 0} (before behind list more : List A) (y : A) → before ++ y ∷ behind ≡ list ++ more → ((t : List A) × (list ≡ before ++ y ∷ t)) ⊎ ((t : List A) × (before ≡ list ++ t) × (more ≡ t ++ y ∷ behind))
 parted before behind [] more y e = inr (before, refl, sym e)
 parted [] behind (x ∷ list) more y e = let same : x ≡ y = cc in inl (list, ap (λ z. z ∷ list) same)
@@ -92,7 +92,7 @@ behind_more k p steps j q list more others are before behind y e mine late =
     (λ h. absurd (own_is_there j h.0 behind y mine (ap (entries_by caller_of j) (sym h.2) ∙ others)))
     (parted before behind list more y (sym e))
 
--- a turn: the list that was found has all from above line p, so the new entry stands behind that
+-- a turn: the list that was found has all from above line p, so the new entry stands after that
 pub behind_turn : (k p : ℕ) (steps : List (ℕ × Step)) (j q : ℕ) (found : List Entry) (new : Entry) → HasAbove k p steps found → AreBehind k p steps j q found → AreBehind k p steps j q (found ++ new ∷ [])
 behind_turn k p steps j q found new has are before behind y e mine late =
     ⊎_elim
@@ -133,7 +133,7 @@ behind_later k p steps j q list later begins own are =
     let none : entries_by caller_of j more ≡ [] = nil_from_length (entries_by caller_of j more) (omega (arith, ap length parts, ap length own, long)) in
     subst (λ (l : List Entry). AreBehind k p steps j q l) begins.1 (behind_more k p steps j q list more none are)
 
--- what a seat had seen, what its turn found, and its own entry behind that
+-- what a seat had seen, what its turn found, and its own entry after that
 module _ (k p : ℕ) (steps : List (ℕ × Step)) (j q : ℕ) (seen found : List Entry) (new : Entry) (begins : IsPrefix seen found) (mine : new.caller ≡ j)
     (own : entries_by caller_of j (found ++ new ∷ []) ≡ entries_by caller_of j seen ++ new ∷ []) where
   found_own : entries_by caller_of j found ≡ entries_by caller_of j seen

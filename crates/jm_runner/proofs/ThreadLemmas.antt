@@ -23,7 +23,7 @@ map_snoc {A} f xs more x ys y is same last = ap (λ l. map f l) is ∙ at_end xs
     at_end [] = refl
     at_end (z ∷ l) = ap (λ m. f z ∷ m) (at_end l)
 
--- what is behind a place goes on with its first element
+-- what is after a place goes on with its first element
 pub snoc_rest : {A : Type 0} (xs rest : List A) (x : A) → (xs ++ x ∷ []) ++ rest ≡ xs ++ x ∷ rest
 snoc_rest [] rest x = refl
 snoc_rest (y ∷ xs) rest x = ap (λ l. y ∷ l) (snoc_rest xs rest x)
@@ -35,7 +35,7 @@ pub none_left : {A : Type 0} (xs : List A) → length xs ≡ 0 → xs ≡ []
 none_left [] size = refl
 none_left (x ∷ xs) size = absurd (omega (arith, size))
 
--- where nothing is behind it, it is the whole
+-- where nothing is after it, it is the whole
 pub ends : {A : Type 0} (xs rest whole : List A) → xs ++ rest ≡ whole → rest ≡ [] → xs ≡ whole
 ends {A} xs rest whole all none = sym (alone xs) ∙ ap (λ l. xs ++ l) (sym none) ∙ all
   where

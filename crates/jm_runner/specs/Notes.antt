@@ -72,7 +72,7 @@ module _ {F : Type 0} where
         → slice_get before s ≡ Some old → slice_get after s ≡ Some new → Hears note old new
     pub others : (s : ℕ) → n ≤ s → slice_get after s ≡ slice_get before s
 
-  -- a line that asks for order was passed: the seats have seen more, and behind a wait all that is above the post
+  -- a line that asks for order was passed: the seats have seen more, and after a wait all that is above the post
   pub record PassesLine (scripts : List (List ScriptLine)) (cuts : List (List SyncLine)) (kind : SyncKind) (name : ℕ)
       (before after : List (SeatModel Entry F)) : Type 0 where
     pub more : SeeMore before after

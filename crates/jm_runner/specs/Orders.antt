@@ -37,13 +37,13 @@ IsOrdered history cuts = (k p j q name : ℕ) (posts waits : List SyncLine) → 
 pub record HasAbove (k p : ℕ) (steps : List (ℕ × Step)) (list : List Entry) : Type 0 where
   pub left : All (λ step. p ≤ step.0) (drop (length (entries_by caller_of k list)) steps)
 
--- each entry of caller j below line q stands behind all that caller k has above line p
+-- each entry of caller j below line q stands after all that caller k has above line p
 abbrev pub AreBehind : ℕ → ℕ → List (ℕ × Step) → ℕ → ℕ → List Entry → Type 0
 AreBehind k p steps j q list = (before behind : List Entry) (y : Entry) → list ≡ before ++ y ∷ behind
     → y.caller ≡ j → q < y.line → HasAbove k p steps before
 
 module _ {F : Type 0} where
-  -- the seat has seen all that caller k has above line p, and its own entries below line q stand behind that
+  -- the seat has seen all that caller k has above line p, and its own entries below line q stand after that
   pub record KnowsOrder (k p : ℕ) (steps : List (ℕ × Step)) (q : ℕ) (seat : SeatModel Entry F) : Type 0 where
     pub has : HasAbove k p steps seat.seen
     pub behind : AreBehind k p steps seat.number q seat.seen

@@ -22,7 +22,7 @@ pub(crate) fn parcels<M: Monitor, J: Naming<M::Definition>>(
     requires know { KnowAbove J.scripts J.cuts name seats.old.items }
     ensures count { IfOk result (λ parcels. vec_len parcels ≡ count) }
     ensures named { IfOk result (λ parcels. All (λ p. p ≡ name) parcels.items) }
-    ensures same { OnOk result (seats.new.items ≡ seats.old.items) }
+    ensures unchanged { OnOk result (seats.new.items ≡ seats.old.items) }
 {
     let mut parcels = Vec::new(alloc);
     for _n in 0..count {
@@ -40,7 +40,7 @@ fn notes_of<M: Monitor>(
 ) -> Result<Vec<Note<M>>, NoMemory>
     requires { AreSeatsOf watches.now seats.old.items }
     ensures notes { IfOk result (λ notes. notes.items ≡ map note_of seats.old.items) }
-    ensures same { OnOk result (seats.new.items ≡ seats.old.items) }
+    ensures unchanged { OnOk result (seats.new.items ≡ seats.old.items) }
 {
     let mut notes = Vec::new(alloc);
     for s in 0..watches.len() {

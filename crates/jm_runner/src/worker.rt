@@ -30,7 +30,7 @@ pub(crate) fn work<M: Monitor, J: Naming<M::Definition>, G: Gate>(
     notices: &Notices<M, J>,
     gate: &G,
 ) -> Result<Vec<Seat<M>>, NoMemory>
-    requires few { length watches.now ≤ 16 }
+    requires bounded { length watches.now ≤ 16 }
     requires seats { HaveDone caller [] watches.now seats.items }
     requires fits { All (λ line. FitsWatches M.meaning watches.now line) script.now }
     requires part { TakesPart J.scripts J.cuts J.watches caller script.now cut.now.lines.items watches.now }
@@ -72,7 +72,7 @@ fn do_script<M: Monitor, J: Naming<M::Definition>, G: Gate>(
     gate: &G,
     passed: &mut usize,
 ) -> Result<(), NoMemory>
-    requires few { length watches.now ≤ 16 }
+    requires bounded { length watches.now ≤ 16 }
     requires seats { HaveDone caller [] watches.now seats.old.items }
     requires fits { All (λ line. FitsWatches M.meaning watches.now line) script.now }
     requires part { TakesPart J.scripts J.cuts J.watches caller script.now cut.now.lines.items watches.now }
@@ -123,7 +123,7 @@ fn do_lines<M: Monitor, G: Gate>(
     to: usize,
     gate: &G,
 ) -> Result<(), NoMemory>
-    requires few { length watches.now ≤ 16 }
+    requires bounded { length watches.now ≤ 16 }
     requires places { (from ≤ to) × (to ≤ length script.now) }
     requires seats { HaveDone caller (take from script.now) watches.now seats.old.items }
     requires fits { All (λ line. FitsWatches M.meaning watches.now line) script.now }
@@ -152,7 +152,7 @@ fn do_line<M: Monitor>(
     seats: &mut Vec<Seat<M>>,
     line: &ScriptLine,
 ) -> Result<(), NoMemory>
-    requires few { length watches.now ≤ 16 }
+    requires bounded { length watches.now ≤ 16 }
     requires seats { AreSeatsOf watches.now seats.old.items }
     requires fits { FitsWatches M.meaning watches.now line.now }
     ensures { OnOk result (DoesLineBelow (length watches.now) watches.now line.now seats.old.items seats.new.items) }

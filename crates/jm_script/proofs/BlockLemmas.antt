@@ -1,4 +1,4 @@
--- Lines in short form stay as they are when objects are put behind the others.
+-- Lines in short form stay as they are when objects are put after the others.
 use Rattle.std.proofs.Common.{◌≡◌, ℕ, ◌+◌, ◌≤◌, List, [], ◌∷◌, ◌++◌, length, drop, All, refl, sym, ◌∙◌, ap, subst, arith, length-append, length-drop}
 use Rattle.std.specs.Prelude.{count_ones}
 use Rattle.std.proofs.lemmas.List.{drop-append-le, take-append-le, map-append}
@@ -10,7 +10,7 @@ use Rattle.jm_script.specs.declared.block.Brief.TheVariants as brief
 use Rattle.jm_script.specs.declared.block.BriefLine.{BriefLine}
 use Rattle.jm_script.specs.Blocks.{event_target, target_in, line_in, lines_in, FitsIn, IsBlock, Grown}
 
--- ---- objects behind the others
+-- ---- objects after the others
 target_in-more : (objects more : List ℕ) (b : Brief) → FitsIn (length objects) b → target_in (objects ++ more) b ≡ target_in objects b
 target_in-more objects more (brief.Event spec letter mask first) fits =
     let behind = drop-append-le first objects more (omega (arith, fits)) in

@@ -61,7 +61,7 @@ pub read_by_words : (catalog : List CatalogEntry) (count line : ℕ) (bytes : Li
 unfolding line_meaning
 read_by_words catalog count line bytes words old new r e h = rw (← e) h
 
--- the same by the first word of some and those behind it
+-- the same by the first word of some and those after it
 pub read_by_first : (catalog : List CatalogEntry) (count line : ℕ) (bytes word : List ℕ) (rest words old new : List (List ℕ)) (r : Result (Option Target) ScriptError) → word ∷ rest ≡ words → words ≡ words_of bytes → IsReadAs (statement_meaning catalog count line old (statement_of word rest)) old r new → IsReadAs (line_meaning catalog count line bytes old) old r new
 read_by_first catalog count line bytes word rest words old new r split e h = read_by_words catalog count line bytes (word ∷ rest) old new r (split ∙ e) h
 

@@ -83,7 +83,7 @@ IsExtension-trans a b c h k = record { added = h.added ++ k.added; at_end = k.at
 pub length-IsExtension : (old new : List (List ℕ)) → IsExtension old new → length old ≤ length new
 length-IsExtension old new h = omega (arith, ap length h.at_end, length-append old h.added)
 
--- a word that isn't among the names is mentioned behind them
+-- a word that isn't among the names is mentioned after them
 pub with_name-behind : (names new : List (List ℕ)) (name : List ℕ) → number_of names name ≡ None → with_name (names ++ new) name ≡ names ++ with_name new name
 with_name-behind names new name e =
     let none : list_any (bytes_eq name) names ≡ false = list_any-number_of names name ∙ ap is_some e in

@@ -14,7 +14,7 @@ use Rattle.jm_script.proofs.MeaningLemmas.{line_keeps}
 use Rattle.jm_script.specs.declared.script.Target.{Target}
 use Rattle.jm_script.specs.declared.script.ScriptLine.{ScriptLine}
 
--- what is meant by lines that stand behind these steps
+-- what is meant by lines that stand after these steps
 abbrev pub behind : List ScriptLine → ScriptMeaning → ScriptMeaning
 behind steps m = record { lines = steps ++ m.lines; names = m.names; fault = m.fault }
 

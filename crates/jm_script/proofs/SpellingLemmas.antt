@@ -68,7 +68,7 @@ one_reading word words statement other h k =
     let e : Some statement ≡ Some other = sym (spelled_is_read word words statement h) ∙ spelled_is_read word words other k in
     cc
 
--- a word with a name behind its first dot
+-- a word with a name after its first dot
 dot_parts : (word : List ℕ) → is_name_text (after_first is_dot word) ≡ true → word ≡ before_first is_dot word ++ 46 ∷ after_first is_dot word
 dot_parts [] h = absurd (false≢true h)
 dot_parts (b ∷ word) h = by_case (is_dot b) refl (λ k. dot_parts word k)

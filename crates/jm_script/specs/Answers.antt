@@ -1,4 +1,4 @@
--- What a reader answers and leaves behind.
+-- What a reader answers and leaves after.
 use Rattle.std.specs.Prelude.{ℕ, ◌≡◌, ◌+◌, List, length, Option, Some, None, Result, Ok, Err}
 use Rattle.jm_model.specs.Words.{Text}
 use Rattle.jm_model.specs.declared.fault.ScriptFault.{ScriptFault}

@@ -57,11 +57,11 @@ pub record IsBlock (lines : List BriefLine) (objects : List ℕ) : Type 0 where
   pub fit : All (λ l. FitsIn (length objects) l.brief) lines
   pub few : length objects ≤ 8 * length lines
 
--- some objects are put behind the others
+-- some objects are put after the others
 abbrev pub Grown : List ℕ → List ℕ → Type 0
 Grown old new = (more : List ℕ) × (new ≡ old ++ more)
 
--- the lines of full blocks, one behind the other, and of a last one
+-- the lines of full blocks, one after the other, and of a last one
 abbrev pub lines_of : List (List ScriptLine) → List ScriptLine → List ScriptLine
 lines_of full last = flat_map (λ lines. lines) full ++ last
 

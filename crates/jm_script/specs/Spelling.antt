@@ -15,7 +15,7 @@ pub record SpellsEvent (word : Text) (words : List Text) (spec event : Text)
   pub event_named : is_name_text event ≡ true
   pub objects_named : list_all is_object objects ≡ true
 
--- or a word and the name behind it
+-- or a word and the name after it
 pub record SpellsOne (word expected : Text) (words : List Text) (name : Text) : Type 0 where
   pub first : word ≡ expected
   pub rest : words ≡ name ∷ []

@@ -136,11 +136,11 @@ impl Block {
     }
 }
 
-/// The short form of an action, whose objects are put behind the others.
+/// The short form of an action, whose objects are put after the others.
 #[inline(always)]
 fn shortened(objects: &mut Vec<u32>, action: Action, numbers: &[u32; 8]) -> Brief
     requires room { vec_len objects.old + 8 ≤ vec_capacity objects.old }
-    requires few { vec_len objects.old < 2 ^ 32 }
+    requires bounded { vec_len objects.old < 2 ^ 32 }
     ensures target { target_in objects.new.items result ≡ target_of numbers.now action }
     ensures fits { FitsIn (length objects.new.items) result }
     ensures grown { Grown objects.old.items objects.new.items }
@@ -162,11 +162,11 @@ fn shortened(objects: &mut Vec<u32>, action: Action, numbers: &[u32; 8]) -> Brie
     }
 }
 
-/// Puts the first `count` numbers behind the others. All eight are copied, since a copy of a known length takes no call.
+/// Puts the first `count` numbers after the others. All eight are copied, since a copy of a known length takes no call.
 #[inline(always)]
 fn add_first(objects: &mut Vec<u32>, numbers: &[u32; 8], count: usize)
     requires room { vec_len objects.old + 8 ≤ vec_capacity objects.old }
-    requires few { count ≤ 8 }
+    requires bounded { count ≤ 8 }
     ensures objects { objects.new.items ≡ objects.old.items ++ take count numbers.now }
     ensures len { vec_len objects.new ≡ vec_len objects.old + count }
 {

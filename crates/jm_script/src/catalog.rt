@@ -60,7 +60,7 @@ impl Catalog {
     /// How many specifications there are, at most 16.
     pub fn len(&self) -> u8
         ensures value { result ≡ length self.now }
-        ensures few { result ≤ 16 }
+        ensures bounded { result ≤ 16 }
     {
         self.names.len() as u8
     }

@@ -55,7 +55,7 @@ impl CompactScript {
         action: Action,
         numbers: &[u32; 8],
     ) -> Result<(), NoMemory>
-        requires few { length self.old < most_steps }
+        requires bounded { length self.old < most_steps }
         requires rises { RisesFrom 1 (self.old ++ record { line = line; target = target_of numbers.now action } ∷ []) }
         ensures ok { OnOk result
             (self.new ≡ self.old ++ record { line = line; target = target_of numbers.now action } ∷ []) }
@@ -68,7 +68,7 @@ impl CompactScript {
     /// How many lines there are, at most 200,000. Their numbers rise.
     pub fn len(&self) -> usize
         ensures value { result ≡ length self.now }
-        ensures few { result ≤ most_steps }
+        ensures bounded { result ≤ most_steps }
         ensures rising { RisesFrom 1 self.now }
     {
         self.full.len() * MOST_LINES + self.last.len()
@@ -115,7 +115,7 @@ impl CompactScript {
     }
 }
 
-/// Makes room for a line in the last block: a full one is put behind the others.
+/// Makes room for a line in the last block: a full one is put after the others.
 #[inline(always)]
 fn make_room(alloc: Global, full: &mut Vec<Block>, last: &mut Block) -> Result<(), NoMemory>
     requires full { AreFull full.old.items }
@@ -131,7 +131,7 @@ fn make_room(alloc: Global, full: &mut Vec<Block>, last: &mut Block) -> Result<(
     begin_block(alloc, full, last)
 }
 
-/// Puts a block behind the others, and begins another in its place.
+/// Puts a block after the others, and begins another in its place.
 #[inline(never)]
 fn begin_block(alloc: Global, full: &mut Vec<Block>, last: &mut Block) -> Result<(), NoMemory>
     ensures ok { OnOk result ((full.new.items ≡ full.old.items ++ last.old ∷ []) × (last.new ≡ [])) }
@@ -148,8 +148,8 @@ fn begin_block(alloc: Global, full: &mut Vec<Block>, last: &mut Block) -> Result
 fn block_at<'a>(full: &'a [Block], last: &'a Block, place: usize) -> &'a Block
     requires full { AreFull full.now }
     requires last { length last.now ≤ MOST_LINES }
-    requires there { place < length (lines_of full.now last.now) }
-    ensures there { place % MOST_LINES < length result.now }
+    requires in_range { place < length (lines_of full.now last.now) }
+    ensures in_range { place % MOST_LINES < length result.now }
     ensures line { slice_get result.now (place % MOST_LINES) ≡ slice_get (lines_of full.now last.now) place }
 {
     let block = place / MOST_LINES;

@@ -15,7 +15,7 @@ pub struct NamedEvent {
     pub mask: u8,
 }
 
-/// The event of these names, if it has so many parameters.
+/// The event of these names, if it has the given number of parameters.
 pub fn named_event(
     catalog: &Catalog,
     line: u32,
@@ -26,8 +26,8 @@ pub fn named_event(
     requires spec_text { IsUtf8 spec.now }
     requires event_text { IsUtf8 event.now }
     ensures value { result ≡ named_event catalog.now line spec.now event.now count }
-    ensures there { IfOk result (λ e. HasEvent catalog.now e.spec e.letter.0 e.mask) }
-    ensures few { IfOk result (λ e. (count ≤ 8) × (e.mask < 256)) }
+    ensures present { IfOk result (λ e. HasEvent catalog.now e.spec e.letter.0 e.mask) }
+    ensures bounded { IfOk result (λ e. (count ≤ 8) × (e.mask < 256)) }
     ensures counted { IfOk result (λ e. count ≡ count_ones e.mask) }
 {
     let Some(spec) = catalog.find(text(spec)) else {

@@ -38,7 +38,7 @@ impl<'a> KnownWords<'a> {
         KnownWords { slots: [None; 64] }
     }
 
-    /// The event of a word with so many objects, if it is known.
+    /// The event of a word with the given number of objects, if it is known.
     pub fn find(&self, word: &[u8], count: usize) -> Option<NamedEvent>
         ensures { (catalog : List CatalogEntry) → AreSound catalog self.now.slots →
             IfSome result (IsEventOf catalog word.now count) }
@@ -69,7 +69,7 @@ fn slot_of(word: &[u8]) -> usize
     }
 }
 
-/// The event of a word with so many objects, if it is the known one.
+/// The event of a word with the given number of objects, if it is the known one.
 fn known_event(known: &Option<Known<'_>>, word: &[u8], count: usize) -> Option<NamedEvent>
     ensures { (catalog : List CatalogEntry) → IfSome known.now (IsSound catalog) →
         IfSome result (IsEventOf catalog word.now count) }

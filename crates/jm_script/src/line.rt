@@ -22,7 +22,7 @@ pub fn read_line<'a>(
     names: &mut Names,
     scratch: &mut Scratch<'a>,
 ) -> Result<Option<Action>, ScriptError>
-    requires few { length names.old ≤ most_objects }
+    requires bounded { length names.old ≤ most_objects }
     requires known { AreSound reader.now.catalog.now scratch.old.known.slots }
     ensures known { AreSound reader.now.catalog.now scratch.new.known.slots }
     ensures fits { IfOk result (λ action. IfSome action

@@ -27,7 +27,7 @@ pub fn are_objects(words: &[&[u8]]) -> bool
 /// Writes the numbers of the objects, at most eight, if all of them are known.
 pub fn known_numbers(objects: &[&[u8]], names: &Names, numbers: &mut [u32; 8]) -> Option<()>
     requires objects { IsTrue (list_all is_object (map (λ w. w.now) objects.now)) }
-    requires few { length objects.now ≤ 8 }
+    requires bounded { length objects.now ≤ 8 }
     ensures names { IsSome result → mentioned names.now (map (λ w. w.now) objects.now) ≡ names.now }
     ensures numbers { IsSome result → take (length objects.now) numbers.new
         ≡ numbers_of names.now (map (λ w. w.now) objects.now) }
@@ -50,7 +50,7 @@ pub fn are_few(objects: &[&[u8]], names: &Names) -> bool
 #[inline(always)]
 pub fn have_room(alloc: Global, objects: &[&[u8]], names: &Names) -> Result<bool, NoMemory>
     requires objects { IsTrue (list_all is_object (map (λ w. w.now) objects.now)) }
-    requires few { length objects.now ≤ 8 }
+    requires bounded { length objects.now ≤ 8 }
     requires room { length names.now ≤ most_objects }
     ensures { IfOk result (λ b. b
         ≡ nat_le (length (mentioned names.now (map (λ w. w.now) objects.now))) most_objects) }
@@ -65,7 +65,7 @@ pub fn have_room(alloc: Global, objects: &[&[u8]], names: &Names) -> Result<bool
 #[inline(never)]
 fn have_room_for_new(alloc: Global, objects: &[&[u8]], names: &Names) -> Result<bool, NoMemory>
     requires objects { IsTrue (list_all is_object (map (λ w. w.now) objects.now)) }
-    requires few { length objects.now ≤ 8 }
+    requires bounded { length objects.now ≤ 8 }
     requires room { length names.now ≤ most_objects }
     ensures { IfOk result (λ b. b
         ≡ nat_le (length (mentioned names.now (map (λ w. w.now) objects.now))) most_objects) }
@@ -77,8 +77,8 @@ fn have_room_for_new(alloc: Global, objects: &[&[u8]], names: &Names) -> Result<
 /// The names of the objects that are new.
 fn new_names(alloc: Global, objects: &[&[u8]], names: &Names) -> Result<Names, NoMemory>
     requires objects { IsTrue (list_all is_object (map (λ w. w.now) objects.now)) }
-    requires few { length objects.now ≤ 8 }
-    ensures few { IfOk result (λ new. length new ≤ 8) }
+    requires bounded { length objects.now ≤ 8 }
+    ensures bounded { IfOk result (λ new. length new ≤ 8) }
     ensures value { IfOk result (λ new. mentioned names.now (map (λ w. w.now) objects.now) ≡ names.now ++ new) }
 {
     let mut new = Names::new(alloc);
@@ -94,7 +94,7 @@ fn new_names(alloc: Global, objects: &[&[u8]], names: &Names) -> Result<Names, N
 /// Mentions the objects in order, and writes their numbers, at most eight.
 pub fn mention(objects: &[&[u8]], names: &mut Names, numbers: &mut [u32; 8]) -> Result<(), NoMemory>
     requires objects { IsTrue (list_all is_object (map (λ w. w.now) objects.now)) }
-    requires few { length objects.now ≤ 8 }
+    requires bounded { length objects.now ≤ 8 }
     requires room { length names.old ≤ most_objects }
     ensures ok { OnOk result (names.new ≡ mentioned names.old (map (λ w. w.now) objects.now)) }
     ensures numbers { OnOk result (take (length objects.now) numbers.new

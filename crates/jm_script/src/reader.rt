@@ -29,7 +29,7 @@ pub fn read_script(
     count: &mut u32,
 ) -> Result<Script, ScriptError>
     requires small { length bytes.now < 2 ^ 32 - 1 }
-    requires few { (count.old ≤ most_steps) × (length objects.old ≤ most_objects) }
+    requires bounded { (count.old ≤ most_steps) × (length objects.old ≤ most_objects) }
     ensures ok { IfOk result (λ script. IsWhole
         (script_meaning catalog.now count.old bytes.now objects.old) count.old script objects.new count.new) }
     ensures fitting { IfOk result (λ script. FitsCatalog catalog.now (length objects.new) script) }
@@ -57,7 +57,7 @@ pub fn read_compact(
     count: &mut u32,
 ) -> Result<CompactScript, ScriptError>
     requires small { length bytes.now < 2 ^ 32 - 1 }
-    requires few { (count.old ≤ most_steps) × (length objects.old ≤ most_objects) }
+    requires bounded { (count.old ≤ most_steps) × (length objects.old ≤ most_objects) }
     ensures ok { IfOk result (λ script. IsWhole
         (script_meaning catalog.now count.old bytes.now objects.old) count.old script objects.new count.new) }
     ensures fitting { IfOk result (λ script. FitsCatalog catalog.now (length objects.new) script) }

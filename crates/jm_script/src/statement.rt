@@ -72,7 +72,7 @@ pub fn event_line<'a>(
     names: &mut Names,
     scratch: &mut Scratch<'a>,
 ) -> Result<Option<Action>, ScriptError>
-    requires few { length names.old ≤ most_objects }
+    requires bounded { length names.old ≤ most_objects }
     requires known { AreSound reader.now.catalog.now scratch.old.known.slots }
     ensures known { AreSound reader.now.catalog.now scratch.new.known.slots }
     ensures fits { IfOk result (λ action. IfSome action
@@ -151,7 +151,7 @@ fn new_event(
     }
 }
 
-/// What stands behind a place of a word, if anything does.
+/// What stands after a place of a word, if anything does.
 fn behind(word: &[u8], position: usize) -> &[u8]
     requires { position ≤ length word.now }
     ensures { result.now ≡ drop (position + 1) word.now }
@@ -179,7 +179,7 @@ fn number_all(
     numbers: &mut [u32; 8],
 ) -> Result<(), ScriptError>
     requires objects { IsTrue (list_all is_object (map (λ w. w.now) objects.now)) }
-    requires few { length objects.now ≤ 8 }
+    requires bounded { length objects.now ≤ 8 }
     requires room { length names.old ≤ most_objects }
     ensures room { OnOk result (length (mentioned names.old (map (λ w. w.now) objects.now)) ≤ most_objects) }
     ensures ok { OnOk result (names.new ≡ mentioned names.old (map (λ w. w.now) objects.now)) }
@@ -203,7 +203,7 @@ fn number_all(
     Ok(())
 }
 
-/// A line `death OBJECT`, by the words behind the first. The number of the object may be written.
+/// A line `death OBJECT`, by the words after the first. The number of the object may be written.
 pub fn death_line(
     alloc: Global,
     position: Position,
@@ -234,7 +234,7 @@ fn is_one_object(words: &[&[u8]]) -> bool
     words.len() == 1 && are_objects(words)
 }
 
-/// A line `pass SPEC`, by the words behind the first.
+/// A line `pass SPEC`, by the words after the first.
 pub fn pass_line(
     catalog: &Catalog,
     position: Position,

@@ -23,13 +23,13 @@ pub longer_end : (bytes : List ℕ) (t : Token) (ts : List Token) → may_end_af
 longer_end bytes t [] h = absurd (not_both false h refl)
 longer_end bytes t (u ∷ ts) h = h
 
--- the run behind the first token ends too, unless the first token ends it
+-- the run after the first token ends too, unless the first token ends it
 shorter : (bytes : List ℕ) (inner : List Bracket) (t : Token) (run : List Token) → ends_member inner (member_sign bytes t) ≡ false → open_after bytes inner run ≡ Some [] → may_end_after bytes (t ∷ run) ≡ true → EndsFrom bytes inner run
 shorter bytes [] t [] goes_on closed ended = absurd (not_both _ ended goes_on)
 shorter bytes (b ∷ bs) t [] goes_on closed ended = absurd (let h : Some (b ∷ bs) ≡ Some [] = closed in cc)
 shorter bytes inner t (u ∷ run) goes_on closed ended = record { closed = closed; ended = ended }
 
--- the brackets behind the first token
+-- the brackets after the first token
 pub behind : (bytes : List ℕ) (stack inner : List Bracket) (t : Token) (run : List Token) → after_sign stack (member_sign bytes t) ≡ Some inner → open_after bytes stack (t ∷ run) ≡ open_after bytes inner run
 behind bytes stack inner t run is = ap (option_and_then (λ next. open_after bytes next run)) is
 

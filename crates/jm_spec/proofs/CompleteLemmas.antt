@@ -88,7 +88,7 @@ more_words_read bytes front behind r b =
 modifier_filled : (bytes : List ℕ) (at : ℕ) (front : List Token) (xs : List Modifier) → SpellsModifier bytes front xs → 0 < length front
 modifier_filled bytes at front xs (modifier word more w r) = omega arith
 
--- behind the first word of a modifier no list begins
+-- after the first word of a modifier no list begins
 no_list_behind : (bytes : List ℕ) (more behind : List Token) → Repeats (SpellsMoreWord bytes) more → BeginsWord behind → is_mark_at bytes (more ++ behind) 0 (codes "(") ≡ false
 no_list_behind bytes more [] nothing b = absurd b
 no_list_behind bytes more (t ∷ ts) nothing b = no_mark bytes t (codes "(") b
@@ -135,7 +135,7 @@ open_joined bytes (t ∷ a) b stack s h =
     let p = step_of (after_sign stack (sign_of bytes t)) (λ next. open_in_list bytes next a) s h in
     both_give (after_sign stack (sign_of bytes t)) (λ next. open_in_list bytes next (a ++ b)) p.0 _ p.1 (open_joined bytes a b p.0 s p.2)
 
--- where a run of a type and a name is parted, the name is passed or behind
+-- where a run of a type and a name is parted, the name is passed or after
 split_last : (type : List Token) (name : Token) (front behind : List Token) (comma : Token) → type ++ name ∷ [] ≡ front ++ comma ∷ behind → (name ≡ comma) ⊎ ((left : List Token) × (type ≡ front ++ comma ∷ left))
 split_last [] name [] behind comma e = inl (let h : name ∷ [] ≡ comma ∷ behind = e in cc)
 split_last [] name (f ∷ []) behind comma e = absurd (let h : name ∷ [] ≡ f ∷ comma ∷ behind = e in cc)
@@ -269,7 +269,7 @@ outcome_read bytes word had front xs rest (with_list t params names w l) no_word
     ∙ both_give (any_word_at (t ∷ params ++ rest)) (optional_list_at had bytes) (params ++ rest) _ (word_read t (params ++ rest) (word_kind bytes t word w))
     (ap (λ g. cond {A = Option (List Token × List Token)} g (list_at had bytes (params ++ rest)) (Some (had, params ++ rest))) (list_begins bytes params names rest l) ∙ list_read bytes had params names rest l)
 
--- what stands behind the names of an advice begins no list and no `returning`
+-- what stands after the names of an advice begins no list and no `returning`
 errors_begin : (bytes : List ℕ) (thrown errors : List Token) (colon : Token) (rest : List Token) → SpellsOutcome bytes (codes "throwing") thrown errors → IsMark bytes (codes ":") colon → (is_word_at bytes (thrown ++ colon ∷ rest) 0 (codes "returning") ≡ false) × (is_mark_at bytes (thrown ++ colon ∷ rest) 0 (codes "(") ≡ false)
 errors_begin bytes thrown errors colon rest missing c = (no_word bytes colon (codes ":") (codes "returning") c, no_other_mark bytes colon (codes ":") (codes "(") c refl)
 errors_begin bytes thrown errors colon rest (alone t w) c = (no_other_word bytes t (codes "throwing") (codes "returning") w refl, no_mark bytes t (codes "(") (word_kind bytes t (codes "throwing") w))
@@ -284,7 +284,7 @@ before_read bytes word params names colon run rest w l c r =
     (both_give (list_at [] bytes (params ++ (colon ∷ run ++ rest))) _ (names, colon ∷ run ++ rest) _ (list_read bytes [] params names (colon ∷ run ++ rest) l)
     (both_give (pointcut_at bytes (colon ∷ run ++ rest)) _ rest _ (pointcut_read bytes colon run rest c r) refl))
 
--- where an `after` goes on behind its list
+-- where an `after` goes on after its list
 after_tail : (bytes : List ℕ) (names returned results thrown errors : List Token) (colon : Token) (run rest : List Token) → SpellsOutcome bytes (codes "returning") returned results → SpellsOutcome bytes (codes "throwing") thrown errors → IsMark bytes (codes ":") colon → RunsToEnd bytes run → (outcome_at (codes "returning") names bytes (returned ++ (thrown ++ (colon ∷ run ++ rest))) ≡ Some (names ++ results, thrown ++ (colon ∷ run ++ rest))) × (outcome_at (codes "throwing") (names ++ results) bytes (thrown ++ (colon ∷ run ++ rest)) ≡ Some (names ++ results ++ errors, colon ∷ run ++ rest)) × (pointcut_at bytes (colon ∷ run ++ rest) ≡ Some rest)
 after_tail bytes names returned results thrown errors colon run rest u v c r =
     let b = errors_begin bytes thrown errors colon (run ++ rest) v c in (

@@ -90,7 +90,7 @@ module _ {V : Type 0} (total : ℕ) (X : ℕ → List Token → List V → Type 
   items_sound zero at xs tokens out rest same h = item_stays at (goes_on tokens) xs tokens out rest refl h
   items_sound (suc n) at xs tokens out rest same h = item_goes n at (goes_on tokens) xs tokens out rest same (λ there ys mid. items_sound n there ys mid out rest) refl h
 
--- The other way. What stands behind the last item meets `next`, and so does what stands before it; each item is read there.
+-- The other way. What stands after the last item meets `next`, and so does what stands before it; each item is read there.
 module _ (X : List Token → Type 0) (goes_on : List Token → Bool) (step : List Token → Option (List Token)) (next : List Token → Type 0) (filled : (front : List Token) → X front → 0 < length front) (each : (front behind : List Token) → X front → next behind → (goes_on (front ++ behind) ≡ true) × (step (front ++ behind) ≡ Some behind) × next (front ++ behind)) where
   steps_stop : (n : ℕ) (u : Unit {0}) (rest : List Token) → goes_on rest ≡ false → at_most goes_on (once step) n u rest ≡ Some (u, rest)
   steps_stop zero u rest h = rw h refl

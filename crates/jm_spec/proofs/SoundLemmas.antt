@@ -351,7 +351,7 @@ advice_is bytes tokens a rest h = given (is_word_at bytes tokens 0 (codes "befor
 
 -- events and declarations
 
--- behind the words that begin an event
+-- after the words that begin an event
 abbrev event_tail : List ℕ → List Mention → Bool → List Token → Option (List Mention × List Token)
 event_tail bytes events creation mid = name_at bytes mid >>= λ name. advice_at bytes name.1 >>= λ advice. Some (events ++ record { creation = creation; name = name.0; advice = advice.0 } ∷ [], advice.1)
 

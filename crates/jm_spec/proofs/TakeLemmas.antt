@@ -32,7 +32,7 @@ fails_at_none NoMemory read h none = tt
 fails_at_none (Bad (Syntax line)) read h none = none
 fails_at_none (Bad _) read h none = h
 
--- nothing stands behind, or something does
+-- nothing stands after, or something does
 pub none_behind : {X : Type 0} (x : X) (bytes : List ℕ) (rest : List Token) → is_left bytes rest ≡ false → at_end x rest ≡ Some x
 none_behind x bytes [] h = refl
 none_behind x bytes (t ∷ ts) h = absurd (false≢true (sym h))

@@ -11,7 +11,7 @@ use Rattle.jm_spec.specs.Runs.{may_end}
 abbrev pub member_sign : Text → Token → Sign
 member_sign bytes t = without_angles (sign_of bytes t)
 
--- the brackets that are open behind a run, if they match
+-- the brackets that are open after a run, if they match
 abbrev pub open_after : Text → List Bracket → List Token → Option (List Bracket)
 open_after bytes stack [] = Some stack
 open_after bytes stack (t ∷ ts) =

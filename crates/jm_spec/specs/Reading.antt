@@ -1,4 +1,4 @@
--- Reading from the front of a list of tokens: a rule gives what it reads and the tokens behind it, or nothing.
+-- Reading from the front of a list of tokens: a rule gives what it reads and the tokens after it, or nothing.
 use Rattle.std.specs.Prelude.{ℕ, ◌-◌, List, [], ◌∷◌, length, drop, Option, Some, None, option_map, if◌then◌else◌}
 use Rattle.jm_model.specs.Words.{Text}
 use Rattle.jm_text.specs.declared.token.Token.{Token}

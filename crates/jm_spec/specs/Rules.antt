@@ -219,7 +219,7 @@ module _ (total : ℕ) where
   abbrev pub properties_at : Rule (List Property)
   properties_at = gathered_at goes_on property_at []
 
--- nothing stands behind
+-- nothing stands after
 abbrev pub at_end : {X : Type 0} → X → List Token → Option X
 at_end x [] = Some x
 at_end x (t ∷ ts) = None

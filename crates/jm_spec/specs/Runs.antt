@@ -28,12 +28,12 @@ may_end Semicolon = true
 may_end (Close Curly) = true
 may_end _ = false
 
--- whether a member ends with a token, where these brackets are open behind it
+-- whether a member ends with a token, where these brackets are open after it
 abbrev pub ends_member : List Bracket → Sign → Bool
 ends_member [] sign = may_end sign
 ends_member _ sign = false
 
--- what a run takes from a token on, where it takes so many more behind it, if it doesn't end with the token
+-- what a run takes from a token on, where it takes so many more after it, if it doesn't end with the token
 abbrev pub member_behind : Sign → Option (List Bracket) → (List Bracket → Option ℕ) → Option ℕ
 member_behind sign None more = None
 member_behind sign (Some stack) more = if ends_member stack sign then Some 1 else one_more (more stack)
@@ -84,7 +84,7 @@ ends_formula bytes [] = false
 ends_formula bytes (t ∷ ts) =
     is_mark bytes t (codes "@") || is_mark bytes t (codes "}") || begins_property bytes (t ∷ ts)
 
--- the tokens before the first `@`, the first `}`, or the first name with a colon behind it
+-- the tokens before the first `@`, the first `}`, or the first name with a colon after it
 abbrev pub formula_length : Text → List Token → Option ℕ
 formula_length bytes [] = None
 formula_length bytes (t ∷ ts) = if ends_formula bytes (t ∷ ts) then Some 0 else one_more (formula_length bytes ts)

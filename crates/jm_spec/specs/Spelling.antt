@@ -23,13 +23,13 @@ use Rattle.jm_spec.specs.Rules.{modifier_of, begins_event}
 abbrev pub IsAnyWord : Token → Type 0
 IsAnyWord t = is_word_kind t.kind ≡ true
 
--- { X }, where X spells nothing that is kept: fronts one behind the other
+-- { X }, where X spells nothing that is kept: fronts one after the other
 pub data Repeats (X : List Token → Type 0) : List Token → Type 0 where
   nothing : Repeats X []
   one_more : (front behind : List Token) → X front → Repeats X behind → Repeats X (front ++ behind)
 
 -- { X }, where X spells a list at the place where it begins, a number of tokens from the start of the file: all lists,
--- one behind the other
+-- one after the other
 pub data Spelled {V : Type 0} (X : ℕ → List Token → List V → Type 0) : ℕ → List Token → List V → Type 0 where
   nothing : (at : ℕ) → Spelled X at [] []
   one_more : (at : ℕ) (front behind : List Token) (xs ys : List V) → X at front xs
@@ -61,7 +61,7 @@ pub data SpellsModifier (bytes : Text) : List Token → List Modifier → Type 0
       → Repeats (SpellsMoreWord bytes) more
       → SpellsModifier bytes (word ∷ more) (modifier_of bytes (word ∷ more) ∷ [])
 
--- the brackets that are open behind a run of a list of parameters, where angle brackets are brackets too, if they match
+-- the brackets that are open after a run of a list of parameters, where angle brackets are brackets too, if they match
 abbrev pub open_in_list : Text → List Bracket → List Token → Option (List Bracket)
 open_in_list bytes stack [] = Some stack
 open_in_list bytes stack (t ∷ ts) =

@@ -88,7 +88,7 @@ IsUnspelled bytes tokens NoMemory = Unit {0}
 IsUnspelled bytes tokens (Bad (Syntax line)) = (frame : Frame) → Spells bytes tokens frame → ⊥
 IsUnspelled bytes tokens (Bad _) = ⊥
 
--- of so many tokens, the formula's tokens are some, behind at least one
+-- of so many tokens, the formula's tokens are some, after at least one
 abbrev pub HasRange : ℕ → Property → Type 0
 HasRange n p = (0 < p.first) × (p.first ≤ p.last) × (p.last ≤ n)
 

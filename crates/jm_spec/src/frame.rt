@@ -19,7 +19,7 @@ pub struct Frame {
     pub properties: Items<Property>,
 }
 
-/// A whole file of so many tokens: its clauses, its head and its body, and nothing behind.
+/// A whole file: its clauses, its head and its body, and nothing after it.
 #[tactic(auto, unfolding(crate::specs::Rules::frame_at))]
 pub fn file(total: u32, cursor: &mut Cursor<'_>) -> Result<Frame, SpecError>
     ensures { Gives result (frame_at total cursor.old.bytes.now cursor.old.rest.now) }

@@ -26,7 +26,7 @@ pub struct Property {
     pub handlers: Items<HandlerText>,
 }
 
-/// NAME ":" Formula, and its handlers, in a file of so many tokens, up to the end of the body
+/// NAME ":" Formula, and its handlers, up to the end of the body
 #[derive(Clone, Copy)]
 pub struct OneProperty {
     pub total: u32,
@@ -68,7 +68,7 @@ impl Gathered for OneProperty {
     }
 }
 
-/// "@" NAME Block, in a file of so many tokens
+/// "@" NAME Block
 #[derive(Clone, Copy)]
 struct Handler {
     total: u32,
@@ -104,7 +104,7 @@ impl Gathered for Handler {
     }
 }
 
-/// The range of the tokens inside a block, in a file of so many tokens.
+/// The range of the tokens inside a block, counted in the file.
 #[tactic(auto, unfolding(crate::specs::Rules::block_at))]
 fn block(total: u32, cursor: &mut Cursor<'_>) -> Result<(u32, u32), SpecError>
     ensures { Takes cursor.old result cursor.new (block_at total) }

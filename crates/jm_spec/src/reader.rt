@@ -7,7 +7,7 @@ use jm_model::SpecError;
 use jm_reading::Cursor;
 use jm_text::TokenKind;
 
-/// The number of the next token of a file of so many.
+/// The number of the next token, in a file of `total` tokens.
 pub fn place(total: u32, cursor: &Cursor<'_>) -> u32
     ensures { result ≡ place total cursor.now.rest.now }
 {

@@ -91,7 +91,7 @@ fn parts(brackets: &Brackets, sign: Sign) -> bool
     }
 }
 
-/// How many tokens stand before the first `@`, the first `}` or the first name with a colon behind it.
+/// How many tokens stand before the first `@`, the first `}` or the first name with a colon after it.
 pub fn formula_length(cursor: &Cursor<'_>) -> Result<usize, SpecError>
     ensures value { Gives result (formula_length cursor.now.bytes.now cursor.now.rest.now) }
     ensures fits { IfOk result (λ n. n < length cursor.now.rest.now) }

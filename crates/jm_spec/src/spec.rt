@@ -20,9 +20,9 @@ use std::alloc::Global;
 /// without tokens.
 pub fn read_spec(alloc: Global, bytes: &[u8], tokens: &[Token]) -> Result<SpecTree, SpecError>
     requires within { LieWithin bytes.now tokens.now }
-    requires few { length tokens.now < 2 ^ 32 }
+    requires bounded { length tokens.now < 2 ^ 32 }
     ensures ok { IfOk result (IsTreeOfTokens bytes.now tokens.now) }
-    ensures few { IfOk result IsFewProperties }
+    ensures bounded { IfOk result IsFewProperties }
     ensures err { IfErr result (IsFaultOfTokens bytes.now tokens.now) }
 {
     let frame = read_frame(alloc, bytes, tokens)?;
@@ -32,7 +32,7 @@ pub fn read_spec(alloc: Global, bytes: &[u8], tokens: &[Token]) -> Result<SpecTr
 /// Reads the frame, of which `tree_of` makes the tree: nothing but the grammar is asked yet. The one fault is `Syntax`.
 pub fn read_frame(alloc: Global, bytes: &[u8], tokens: &[Token]) -> Result<Frame, SpecError>
     requires within { LieWithin bytes.now tokens.now }
-    requires few { length tokens.now < 2 ^ 32 }
+    requires bounded { length tokens.now < 2 ^ 32 }
     ensures ok { IfOk result (Spells bytes.now tokens.now) }
     ensures ranges { IfOk result (λ frame. All (HasRange (length tokens.now)) frame.properties) }
     ensures err { IfErr result (IsUnspelled bytes.now tokens.now) }

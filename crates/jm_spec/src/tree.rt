@@ -55,7 +55,7 @@ const MAX_PROPERTIES: usize = 16;
 #[tactic(auto, unfolding(crate::specs::Faults::frame_fault))]
 pub fn tree_of(alloc: Global, bytes: &[u8], frame: Frame) -> Result<SpecTree, SpecError>
     ensures ok { IfOk result (IsTreeOf bytes.now frame) }
-    ensures few { IfOk result IsFewProperties }
+    ensures bounded { IfOk result IsFewProperties }
     ensures checked { Checks result (frame_fault bytes.now frame) }
 {
     let Frame {
@@ -134,7 +134,7 @@ fn known_advice(events: &[Mention]) -> Result<(), SpecError>
 /// 1 to 16 properties.
 fn few_properties(properties: &[Property]) -> Result<(), SpecError>
     ensures checked { Checks result (property_fault properties.now) }
-    ensures few { IfOk result (λ _. (0 < length properties.now) × (length properties.now ≤ 16)) }
+    ensures bounded { IfOk result (λ _. (0 < length properties.now) × (length properties.now ≤ 16)) }
 {
     if properties.is_empty() {
         return Err(SpecError::Bad(SpecFault::NoProperty));
@@ -321,9 +321,9 @@ fn with_name(table: &EventTable, bytes: &[u8], mask: u8, name: Token) -> u8
     mask
 }
 
-/// The set with one parameter more, of so many.
+/// The set with one parameter more, below the given bound.
 fn with_bit(mask: u8, p: u8, params: u8) -> u8
-    requires few { params ≤ 8 }
+    requires bounded { params ≤ 8 }
     requires known { p < params }
     requires fits { mask < 2 ^ params }
     ensures value { result ≡ bit_or mask (2 ^ p) }

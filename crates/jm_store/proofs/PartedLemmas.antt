@@ -14,7 +14,7 @@ module _ {X Y Z : Type 0} (R : X → Option Y → Type 0) (Q : X → Option Z �
   pub sifted_none : AreSifted R Q [] [] [] []
   sifted_none = record { told = []; others = []; all = IsPermutation-refl []; given = refl; read = refl; none = λ x has. absurd (Contains-none x has) }
 
-  -- an element behind a permutation of others
+  -- an element after a permutation of others
   behind : (xs ys : List X) (x : X) → IsPermutation xs ys → IsPermutation (xs ++ x ∷ []) (ys ++ x ∷ [])
   behind xs ys x all = IsPermutation-append_left (x ∷ []) xs ys all
 

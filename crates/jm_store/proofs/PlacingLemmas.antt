@@ -16,7 +16,7 @@ use Rattle.jm_store.specs.Contents.{Contents, stored_of, IsFilled, IsPlannedBy, 
 use Rattle.jm_store.proofs.SlotLemmas.{stored_at}
 use Rattle.jm_store.proofs.GivenLemmas.{pairs_head, pairs_tail}
 
--- of a list in two parts the first of the second and those behind it
+-- of a list in two parts the first of the second and those after it
 pub pairs_split : {X : Type 0} (Q : X → X → Type 0) (xs : List X) (x : X) (ys : List X) → AllPairs Q (xs ++ x ∷ ys) → (y : X) → Contains ys y → Q x y
 pairs_split Q [] x ys h y there = pairs_head Q x ys h y there
 pairs_split Q (z ∷ xs) x ys h y there = pairs_split Q xs x ys (pairs_tail Q z (xs ++ x ∷ ys) h) y there

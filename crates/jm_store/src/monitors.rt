@@ -130,7 +130,7 @@ impl<S: Drop> Monitors<S> {
     pub(crate) fn reserve(&mut self) -> Result<usize, NoMemory>
         ensures reserved { IfOk result (λ k. IsReserved self.old.slots self.new.slots k) }
         ensures stored { stored_in (monitors_of self.new.slots) ≡ stored_in (monitors_of self.old.slots) }
-        ensures same { OnErr result (self.new.slots ≡ self.old.slots) }
+        ensures unchanged { OnErr result (self.new.slots ≡ self.old.slots) }
     {
         let slot = self.free;
         match self.slots.get(slot) {
@@ -147,7 +147,7 @@ impl<S: Drop> Monitors<S> {
     fn grow(&mut self) -> Result<usize, NoMemory>
         ensures reserved { IfOk result (λ k. IsReserved self.old.slots self.new.slots k) }
         ensures stored { stored_in (monitors_of self.new.slots) ≡ stored_in (monitors_of self.old.slots) }
-        ensures same { OnErr result (self.new.slots ≡ self.old.slots) }
+        ensures unchanged { OnErr result (self.new.slots ≡ self.old.slots) }
     {
         let slot = self.slots.len();
         self.slots.push(Slot::Planned)?;
@@ -211,7 +211,7 @@ impl<S: Drop> Monitors<S> {
     #[inline(always)]
     pub(crate) fn shift_all<M: Monitor<State = S>>(&mut self, rules: &M, shifts: &[Shift])
         requires apart { AllPairs (λ x y. x.slot ≢ y.slot) shifts.now }
-        requires there { HaveMonitors shifts.now (monitors_of self.old.slots) }
+        requires present { HaveMonitors shifts.now (monitors_of self.old.slots) }
         ensures moved { AreShifted (M.HasNumber rules.now) shifts.now (monitors_of self.old.slots)
             (monitors_of self.new.slots) }
         ensures alike { AreAlike self.old.slots self.new.slots }
@@ -288,7 +288,7 @@ fn is_cut<M: Monitor>(rules: &M, objects: &Objects, monitor: &Stored<M::State>) 
 #[inline(never)]
 fn shift_all<M: Monitor>(rules: &M, slots: &mut [Slot<M::State>], shifts: &[Shift])
     requires apart { AllPairs (λ x y. x.slot ≢ y.slot) shifts.now }
-    requires there { HaveMonitors shifts.now (monitors_of slots.old) }
+    requires present { HaveMonitors shifts.now (monitors_of slots.old) }
     ensures moved { AreShifted (M.HasNumber rules.now) shifts.now (monitors_of slots.old) (monitors_of slots.new) }
     ensures alike { AreAlike slots.old slots.new }
 {
@@ -300,9 +300,9 @@ fn shift_all<M: Monitor>(rules: &M, slots: &mut [Slot<M::State>], shifts: &[Shif
 /// Carries a shift out.
 #[inline(always)]
 fn renumber<M: Monitor>(rules: &M, slots: &mut [Slot<M::State>], shift: &Shift)
-    requires there { (s : Kept M.State) × (monitor_at (monitors_of slots.old) shift.now.slot ≡ Some s) }
+    requires present { (s : Kept M.State) × (monitor_at (monitors_of slots.old) shift.now.slot ≡ Some s) }
     requires low { shift.now.number < 65536 }
-    ensures here { IsShifted (M.HasNumber rules.now) (monitor_at (monitors_of slots.old) shift.now.slot)
+    ensures at_key { IsShifted (M.HasNumber rules.now) (monitor_at (monitors_of slots.old) shift.now.slot)
         (monitor_at (monitors_of slots.new) shift.now.slot) shift.now.number }
     ensures others { (k : ℕ) → (k ≡ shift.now.slot → ⊥)
         → monitor_at (monitors_of slots.new) k ≡ monitor_at (monitors_of slots.old) k }

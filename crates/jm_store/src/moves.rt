@@ -6,8 +6,8 @@ ghost use Rattle.jm_store.specs.declared.moves.Move.{Move as Change};
 use jm_model::{Binding, Firings, Letter, Monitor};
 use jm_monitors::Stored;
 
-/// So many monitors are many. Of so many a list is made whatever the event's binding; an event that meets more of one set
-/// of parameters, and has no list, is worked out by a plan.
+/// Of this number of monitors a list is made whatever the event's binding. An event that meets more of one set of
+/// parameters, and has no list, is worked out by a plan.
 pub(crate) const MANY: usize = 8;
 
 /// What a monitor that an event reaches becomes.

@@ -55,7 +55,7 @@ fn list_hits<M: Monitor>(
 
 /// The firings in their order.
 fn in_order(alloc: Global, firings: &Firings) -> Result<Firings, NoMemory>
-    ensures same { IfOk result (λ sorted. IsPermutation firings.now sorted) }
+    ensures permutation { IfOk result (λ sorted. IsPermutation firings.now sorted) }
     ensures ordered { IfOk result (λ sorted. IsSortedBy (λ f g. is_lt (firing_cmp f g)) sorted) }
 {
     let mut list = list_of(alloc, firings)?;
@@ -120,7 +120,7 @@ fn report_hits(firings: &mut Firings, instance: &Binding, hits: u16) -> Result<(
 #[inline(always)]
 fn room_of(hits: u16) -> u8
     ensures room { hits < 2 ^ result }
-    ensures few { result ≤ 16 }
+    ensures bounded { result ≤ 16 }
 {
     if hits < 2 {
         return 1;

@@ -177,7 +177,7 @@ impl<M: Monitor> Store<M> {
 
     /// The stored bindings, in the order of bindings.
     pub fn stored(&self) -> Result<Vec<Binding>, NoMemory>
-        ensures same { IfOk result (λ list. IsPermutation (map (λ s. s.instance) (stored_of self.now)) list.items) }
+        ensures permutation { IfOk result (λ list. IsPermutation (map (λ s. s.instance) (stored_of self.now)) list.items) }
         ensures ordered { IfOk result (λ list. IsSortedBy (λ a b. is_lt (binding_cmp a b)) list.items) }
     {
         let mut list = self.counted_instances::<Brand>(Blank::new(1))?;
@@ -198,7 +198,7 @@ impl<M: Monitor> Store<M> {
 
     /// The marks, in the order of bindings.
     pub fn marks(&self) -> Result<Vec<Binding>, NoMemory>
-        ensures same { IfOk result (λ list. IsPermutation self.now.marks list.items) }
+        ensures permutation { IfOk result (λ list. IsPermutation self.now.marks list.items) }
         ensures ordered { IfOk result (λ list. IsSortedBy (λ a b. is_lt (binding_cmp a b)) list.items) }
         ensures distinct { AllPairs (λ a b. a ≢ b) self.now.marks }
     {

@@ -299,7 +299,7 @@ impl<M: Monitor> Walk<'_, M> {
         requires known { IsTrue self.now.event.now.known
             ↔ Contains self.now.event.now.marks.now.list self.now.event.now.binding.now }
         requires below { is_below self.now.event.now.binding.now base.now.instance ≡ true }
-        requires here { monitor_at (monitors_of self.now.slots.items.now) slot ≡ Some base.now }
+        requires at_key { monitor_at (monitors_of self.now.slots.items.now) slot ≡ Some base.now }
         ensures { OnOk result (IsPushed (IsReadAt (M.meaning (M.definition self.now.event.now.rules.now)) (M.StandsFor
             self.now.event.now.rules.now) self.now.event.now.letter.0 self.now.event.now.binding.now
             self.now.event.now.objects.now self.now.event.now.marks.now.list (monitors_of self.now.slots.items.now))
@@ -359,7 +359,7 @@ fn turn_of(turns: &[Turn; 16], number: u16) -> Turn
 /// Notes a move.
 #[inline(always)]
 fn note_turn(turns: &mut [Turn; 16], from: u16, to: u16)
-    ensures here { slice_index_or turns.new (from % 16) no_turn ≡ record { from = from; to = to } }
+    ensures at_key { slice_index_or turns.new (from % 16) no_turn ≡ record { from = from; to = to } }
     ensures others { (k : ℕ) → (k ≡ from % 16 → ⊥) → slice_index_or turns.new k no_turn
         ≡ slice_index_or turns.old k no_turn }
 {
@@ -389,7 +389,7 @@ fn note_rest(rests: &mut Vec<usize>, slot: usize)
     let _room = rests.push(slot);
 }
 
-/// Writes a shift behind those that there are.
+/// Writes a shift after those that there are.
 #[inline(always)]
 fn push_shift(shifts: &mut [Shift], count: &mut usize, slot: u32, number: u32)
     requires { count.old < length shifts.old }

@@ -12,7 +12,7 @@ use Rattle.jm_grammar.specs.Rounds.{has_bit}
 use Rattle.jm_suffix.specs.Seconds.{second, can_be_empty}
 
 -- the symbols of a second form's production: the second form of a symbol whose earlier symbols can all be empty, and
--- what stands behind it
+-- what stands after it
 pub data IsSecond (empty : ℕ) : List GrammarSymbol → List GrammarSymbol → Type 0 where
   here : {s : GrammarSymbol} {symbols made : List GrammarSymbol} → made ≡ second s ∷ symbols → IsSecond empty (s ∷ symbols) made
   later : {s : GrammarSymbol} {symbols made : List GrammarSymbol} → can_be_empty empty s ≡ true → IsSecond empty symbols made → IsSecond empty (s ∷ symbols) made

@@ -22,7 +22,7 @@ module _ (empty : ℕ) where
   can_be_empty (Nonterminal n) = has_bit empty n
 
   -- The productions of a second form for one production of what it is a form of: for each symbol whose earlier symbols
-  -- can all be empty, its second form and what stands behind it.
+  -- can all be empty, its second form and what stands after it.
   abbrev pub second_forms : ℕ → List GrammarSymbol → List Production
   second_forms left [] = []
   second_forms left (s ∷ symbols) =
@@ -33,7 +33,7 @@ module _ (empty : ℕ) where
   all_second_forms [] = []
   all_second_forms (p ∷ productions) = second_forms (p.left + 31) p.symbols ++ all_second_forms productions
 
--- the new start goes on behind a letter
+-- the new start goes on after a letter
 abbrev pub start_behind : ℕ → Production
 start_behind letter = record { left = 62; symbols = Letter (record { 0 = letter }) ∷ Nonterminal 62 ∷ [] }
 

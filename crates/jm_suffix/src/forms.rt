@@ -54,7 +54,7 @@ fn second_form(
 }
 
 /// Adds the productions of a second form for one production of what it is a form of: for each symbol whose earlier
-/// symbols can all be empty, its second form and what stands behind it.
+/// symbols can all be empty, its second form and what stands after it.
 fn add_forms(
     alloc: Global,
     productions: &mut Vec<Production>,
@@ -93,7 +93,7 @@ pub(crate) fn add_all_forms(
     Ok(())
 }
 
-/// The production by which the new start goes on behind a letter.
+/// The production by which the new start goes on after a letter.
 fn start_behind(alloc: Global, letter: u8) -> Result<Production, NoMemory>
     ensures { IfOk result (λ p. p ≡ start_behind letter) }
 {

@@ -10,12 +10,12 @@ use jm_grammar::{Grammar, Production};
 use jm_model::NoMemory;
 use std::alloc::Global;
 
-/// The grammar of the words, over so many letters, that end in a word of this one, of a letter or more.
+/// The grammar of the words, over the given number of letters, that end in a word of this one, of a letter or more.
 ///
 /// Each nonterminal gets a second form, which spells its words of a letter or more, and a new start puts any letters in
 /// front of the second form of the old one. A grammar has no memory for more than 65,536 productions.
 pub fn suffix_grammar(alloc: Global, grammar: Grammar, letters: u8) -> Result<Grammar, NoMemory>
-    requires few { IsWithin 31 grammar }
+    requires bounded { IsWithin 31 grammar }
     requires below { AreBelow grammar.productions letters }
     requires most { letters ≤ 32 }
     ensures words { IfOk result (λ g. (word : List ℕ) → IsWord g word

@@ -20,7 +20,7 @@ struct Line {
 pub fn parts(alloc: Global, bytes: &[u8]) -> Result<Vec<(u32, u32)>, NoMemory>
     requires { length bytes.now < 2 ^ 32 - 1 }
     ensures value { IfOk result (λ spans. map (span_text bytes.now) spans.items ≡ parts_of bytes.now) }
-    ensures few { IfOk result (λ spans. length spans.items ≤ length bytes.now + 1) }
+    ensures bounded { IfOk result (λ spans. length spans.items ≤ length bytes.now + 1) }
     ensures within { IfOk result (λ spans. All (LiesWithin bytes.now) spans.items) }
 {
     let mut spans = Vec::new(alloc);

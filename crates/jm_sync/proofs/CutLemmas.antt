@@ -180,7 +180,7 @@ module _ (old : List (List ℕ)) (bytes : List ℕ) (rest : List ℕ) (sync : Li
         named = cut_named;
       }
 
-      -- a line with others behind it
+      -- a line with others after it
       pub next_line : (text : List ℕ) → more ≡ lines_of text → HasCut old bytes (new_rest ++ 10 ∷ []) new_sync new (n + 1) more
       next_line text some =
           let after = join_with_byte 10 (map rest_of_line more) in
@@ -206,7 +206,7 @@ pub some_left : (o : Option (Bor (List ℕ))) → is_some o ≡ true → (text :
 some_left None e = cc
 some_left (Some text) e = (text.now, refl)
 
--- the first line is what stands before its end, and the lines behind it are left
+-- the first line is what stands before its end, and the lines after it are left
 pub line_here : (o : Option (Bor (List ℕ))) (text : Bor (List ℕ)) (end : ℕ) (more : List (List ℕ)) → o ≡ Some text → end ≡ position_or_len is_line_feed text.now → lines_of text.now ≡ first_line text.now ∷ more → lines_left o ≡ take end text.now ∷ more
 line_here o text end more is e lines = ap lines_left is ∙ lines ∙ ap (λ n. take n text.now ∷ more) (sym e)
 

@@ -15,7 +15,7 @@ use Rattle.jm_sync.specs.Names.{is_among, with_number}
 use Rattle.jm_sync.specs.Checks.{line_at, Reachable, at_post, at_wait, AreReachable}
 use Rattle.jm_sync.specs.Walks.{posted_past, IsOpen, CanPass, HasReached, IsAtEnd, IsFrontError, IsReachError}
 
--- how many lines stand behind the fronts
+-- how many lines stand after the fronts
 abbrev pub lines_left : List (List SyncLine) → List ℕ → ℕ
 lines_left [] fronts = 0
 lines_left (lines ∷ scripts) [] = 0
@@ -111,7 +111,7 @@ past_cases numbers Wait x name e = inl e
 
 -- ---- a front passes its line
 
--- a front behind one line more leaves fewer lines
+-- a front after one line more leaves fewer lines
 pub fewer_left : (scripts : List (List SyncLine)) (fronts : List ℕ) (k : ℕ) (lines : List SyncLine) → slice_get scripts k ≡ Some lines → k < length fronts → get_or fronts k 0 < length lines → lines_left scripts (set fronts k (get_or fronts k 0 + 1)) < lines_left scripts fronts
 fewer_left [] fronts k lines here inside room = absurd (none-some lines here)
 fewer_left (x ∷ scripts) [] k lines here inside room = absurd (omega arith)

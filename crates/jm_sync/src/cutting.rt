@@ -16,7 +16,7 @@ use std::alloc::Global;
 /// line are as in other lines. After NoMemory the names may have new ones at their end.
 pub fn cut(alloc: Global, bytes: &[u8], names: &mut Names) -> Result<Cut, NoMemory>
     requires small { length bytes.now < 2 ^ 32 - 1 }
-    requires few { length (names_after names.old bytes.now) < 2 ^ 32 }
+    requires bounded { length (names_after names.old bytes.now) < 2 ^ 32 }
     ensures rest { IfOk result (λ cut. cut.rest.items ≡ rest_of bytes.now) }
     ensures shorter { IfOk result (λ cut. length cut.rest.items ≤ length bytes.now) }
     ensures lines { IfOk result (λ cut. cut.lines.items ≡ sync_lines_of names.old bytes.now) }
@@ -53,7 +53,7 @@ fn cut_line(
     cut: &mut Cut,
 ) -> Result<(), NoMemory>
     requires words { map (λ w. w.now) words.now ≡ words_of line.now }
-    requires few { length (names_with names.old (request_of line.now)) < 2 ^ 32 }
+    requires bounded { length (names_with names.old (request_of line.now)) < 2 ^ 32 }
     ensures rest { OnOk result (cut.new.rest.items ≡ cut.old.rest.items ++ rest_of_line line.now) }
     ensures lines { OnOk result (cut.new.lines.items ≡ cut.old.lines.items
         ++ numbered number names.old (request_of line.now)) }
@@ -114,7 +114,7 @@ fn asked_kind(word: &[u8]) -> Option<SyncKind>
 /// The number of a name, which is added at the end if it is new.
 fn mention(name: &[u8], names: &mut Names) -> Result<u32, NoMemory>
     requires object { IsTrue (is_object name.now) }
-    requires few { length (with_name names.old name.now) < 2 ^ 32 }
+    requires bounded { length (with_name names.old name.now) < 2 ^ 32 }
     ensures ok { OnOk result (names.new ≡ with_name names.old name.now) }
     ensures number { IfOk result (λ number. number ≡ number_for names.old name.now) }
     ensures err { OnErr result (names.new ≡ names.old) }

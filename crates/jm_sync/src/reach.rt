@@ -76,7 +76,7 @@ fn pass(line: SyncLine, posted: &mut NameNumbers) -> Result<(), NoMemory>
 /// The first front that hasn't come to the end of its script is stuck there.
 fn find_stuck(scripts: &[Cut], fronts: &[usize]) -> Result<(), SyncError>
     requires counted { length fronts.now ≡ length scripts.now }
-    requires few { length scripts.now < 2 ^ 32 }
+    requires bounded { length scripts.now < 2 ^ 32 }
     ensures ok { OnOk result ((k : ℕ) → IsAtEnd (sync_of scripts.now) fronts.now k) }
     ensures err { IfErr result (IsFrontError (sync_of scripts.now) fronts.now) }
 {

@@ -48,7 +48,7 @@ impl<T: Posted + Drop, W: Posted + Copy + Drop> Model for Shelves<T, W> {
 }
 
 impl<T: Posted + Drop, W: Posted + Copy + Drop> Shelves<T, W> {
-    /// Empty shelves for so many names.
+    /// Empty shelves for the given number of names.
     pub(crate) fn new(alloc: Global, names: u32) -> Result<Shelves<T, W>, NoMemory>
         ensures { IfOk result (λ s. s ≡ names) }
     {

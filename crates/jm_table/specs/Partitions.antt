@@ -73,7 +73,7 @@ IsTestOf t Letters = Unit {0}
 abbrev pub first_of : List ℕ → List ℕ → ℕ → ℕ
 first_of classes firsts p = slice_index firsts (slice_index classes p)
 
--- the key of a state is its class, where the test finds it like the first state of its class, and else a number behind
+-- the key of a state is its class, where the test finds it like the first state of its class, and else a number after
 -- all classes
 abbrev pub IsKeyOf : Test → Transitions → List ℕ → List ℕ → ℕ → ℕ → Type 0
 IsKeyOf test t classes firsts p key =

@@ -44,7 +44,7 @@ impl Known {
 
     /// Puts a number into the bucket of a key.
     pub(crate) fn add(&mut self, key: u64, number: u16) -> Result<(), NoMemory>
-        ensures here { OnOk result (bucket_of self.new key ≡ bucket_of self.old key ++ number ∷ []) }
+        ensures at_key { OnOk result (bucket_of self.new key ≡ bucket_of self.old key ++ number ∷ []) }
         ensures others { OnOk result ((q : ℕ) → (bucket_of self.new q ≡ bucket_of self.old q)
             ⊎ (bucket_of self.new q ≡ bucket_of self.old q ++ number ∷ [])) }
     {

@@ -12,7 +12,7 @@ pub fn places<T, F: Fn(&T) -> bool + Drop>(
     items: &[T],
     holds: F,
 ) -> Result<Vec<u16>, NoMemory>
-    requires few { length items.now ≤ 65536 }
+    requires bounded { length items.now ≤ 65536 }
     requires calls { F.IsAlwaysCallable holds }
     ensures { IfOk result (λ v. ArePlaces (FnReturnsAt F.Fn holds) items.now (length items.now) v.items) }
 {

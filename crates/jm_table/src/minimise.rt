@@ -17,10 +17,10 @@ impl Table {
     pub fn minimise(self) -> Result<Table, NoMemory>
         ensures shape { IfOk result (λ t. (t.letters ≡ self.letters) × (length t.groups ≡ length self.groups)) }
         ensures table { IfOk result IsTable }
-        ensures same { IfOk result (HaveSameGroups self) }
+        ensures groups { IfOk result (HaveSameGroups self) }
         ensures reduced { IfOk result IsReduced }
         ensures reachable { IfOk result (λ t. IsReachable self → IsReachable t) }
-        ensures few { IfOk result (λ t. t.states ≤ self.states) }
+        ensures bounded { IfOk result (λ t. t.states ≤ self.states) }
     {
         let alloc = self.allocator();
         let partition = equivalence(alloc, &self)?;
@@ -73,7 +73,7 @@ fn classes_in(
 ) -> Result<Vec<u16>, NoMemory>
     requires partition { IsPartition table.now.states partition.now.classes.items partition.now.firsts.items }
     requires group { group < length table.now.groups }
-    requires few { length partition.now.firsts.items ≤ 1024 }
+    requires bounded { length partition.now.firsts.items ≤ 1024 }
     ensures within { IfOk result (λ members. All (λ class. class < length partition.now.firsts.items) members.items) }
     ensures exact { IfOk result (λ members. (class : ℕ) → class < length partition.now.firsts.items →
         Contains members.items class ↔ IsInGroup table.now (slice_index partition.now.firsts.items class) group) }

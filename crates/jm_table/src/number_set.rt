@@ -40,7 +40,7 @@ impl<const WORDS: usize> NumberSet<WORDS> {
         requires { number < 64 * WORDS }
         ensures member { (other : ℕ) → Contains self.new other ↔ (Contains self.old other ⊎ (other ≡ number)) }
         ensures longer { (Contains self.old number → ⊥) → length self.old < length self.new }
-        ensures few { length self.new ≤ 64 * WORDS }
+        ensures bounded { length self.new ≤ 64 * WORDS }
     {
         let at = number as usize / 64;
         let word = self.words[at];

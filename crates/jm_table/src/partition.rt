@@ -31,7 +31,7 @@ impl Partition {
     pub(crate) fn split(&mut self, alloc: Global, keys: &[u16]) -> Result<(), NoMemory>
         requires partition { IsPartition (length keys.now) self.old.classes.items self.old.firsts.items }
         requires fit { FitClasses (length keys.now) self.old.firsts.items keys.now }
-        requires few { length keys.now ≤ 1024 }
+        requires bounded { length keys.now ≤ 1024 }
         ensures { OnOk result (AreNumbered (length keys.now) keys.now self.old.firsts.items
             self.new.classes.items self.new.firsts.items) }
     {
@@ -66,7 +66,7 @@ fn number_of(
     state: usize,
 ) -> Result<u16, NoMemory>
     requires state { state < length keys.now }
-    requires few { length keys.now ≤ 1024 }
+    requires bounded { length keys.now ≤ 1024 }
     requires room { length firsts.old.items < 2048 }
     requires key { slice_index keys.now state < length numbers.old.items }
     requires given { AreGiven (length keys.now) keys.now numbers.old.items firsts.old.items }

@@ -1,4 +1,4 @@
--- What is refused first of files, one behind the other, is one; and so is what they say.
+-- What is refused first of files, one after the other, is one; and so is what they say.
 use Rattle.std.proofs.Common.{◌≡◌, ℕ, ◌+◌, inl, Bool, List, [], ◌∷◌, ◌++◌, length, Option, refl, sym, ap, subst, ◌∙◌, arith, append_assoc, append-nil}
 use Rattle.jm_model.specs.declared.fault.SpecFault.{SpecFault}
 use Rattle.jm_model.specs.declared.fault.ScriptFault.{ScriptFault}
@@ -38,7 +38,7 @@ module _ (families : Bool) (before : List Specification) (bytes : List ℕ) wher
       never_some (sym is.sound ∙ ap (refusal_of families before) (one_specification bytes s t is.said said) ∙ some)
 
 module _ (contents : List ℕ → Option (List ℕ)) (families : Bool) where
-  -- behind no other specifications
+  -- after no other specifications
   refused_first : (before specs : List Specification) (bytes held : List ℕ) (fault : SpecFault) → specs ≡ [] → bytes ≡ held → IsRefusal families (before ++ specs) bytes fault → IsRefusal families before held fault
   refused_first before specs bytes held fault none same is =
       subst (λ v. IsRefusal families v held fault) (ap (λ v. before ++ v) none ∙ append-nil before) (subst (λ v. IsRefusal families (before ++ specs) v fault) same is)
@@ -93,14 +93,14 @@ module _ (ordered : Bool) (specs : List Specification) (count : ℕ) (names : Li
   file_or_fault script objects _ h (in_file fault small some) = never_some (sym h.said.sound ∙ some)
 
 module _ (contents : List ℕ → Option (List ℕ)) (ordered : Bool) (specs : List Specification) where
-  -- behind no other scripts
+  -- after no other scripts
   faulty_first : (count : ℕ) (names objects : List (List ℕ)) (scripts : List (List ScriptLine)) (bytes held : List ℕ) (fault : ScriptFault) → scripts ≡ [] → objects ≡ names → bytes ≡ held
       → IsScriptFileFault ordered specs (count + step_count scripts) objects bytes fault → IsScriptFileFault ordered specs count names held fault
   faulty_first count names objects scripts bytes held fault none same one is =
       let zero : count + step_count scripts ≡ count = ap (λ v. count + step_count v) none ∙ omega arith in
       subst (λ v. IsScriptFileFault ordered specs count names v fault) one (subst (λ v. IsScriptFileFault ordered specs count v bytes fault) same (subst (λ n. IsScriptFileFault ordered specs n objects bytes fault) zero is))
 
-  -- behind one more
+  -- after one more
   faulty_behind : (count : ℕ) (objects : List (List ℕ)) (scripts more : List (List ScriptLine)) (script lines : List ScriptLine) (bytes : List ℕ) (fault : ScriptFault) → scripts ≡ script ∷ more → script ≡ lines
       → IsScriptFileFault ordered specs (count + step_count scripts) objects bytes fault → IsScriptFileFault ordered specs ((count + length lines) + step_count more) objects bytes fault
   faulty_behind count objects scripts more script lines bytes fault e same is =
@@ -164,7 +164,7 @@ module _ (contents : List ℕ → Option (List ℕ)) (ordered : Bool) (specs : L
 -- ---- parts of a recording
 
 module _ (specs : List Specification) where
-  -- behind no other part, and behind one more
+  -- after no other part, and after one more
   part_first : (count : ℕ) (parts : List RecordedPart) (text other : List ℕ) (fault : ScriptFault) → parts ≡ [] → text ≡ other → IsScriptFault specs (count + steps_of_parts parts) [] text fault → IsScriptFault specs count [] other fault
   part_first count parts text other fault none same is =
       let zero : count + steps_of_parts parts ≡ count = ap (λ v. count + steps_of_parts v) none ∙ omega arith in

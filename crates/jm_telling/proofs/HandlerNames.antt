@@ -28,7 +28,7 @@ use Rattle.jm_inputs.proofs.OneReadingLemmas.{never_some}
 use Rattle.jm_telling.proofs.NameLists.{no_names, name_more, plain_name}
 use Rattle.jm_telling.proofs.NumberedNames.{EachNames, names_named}
 
--- handlers behind these, of which none is for a category of an earlier one
+-- handlers after these, of which none is for a category of an earlier one
 distinct_handlers : (bytes : List ℕ) (earlier : List (List ℕ)) (hs : List HandlerText) → AreNames earlier → duplicate_fault bytes earlier hs ≡ None → AreNames (earlier ++ handler_names bytes hs)
 distinct_handlers bytes earlier [] before none = subst AreNames (sym (append-nil earlier)) before
 distinct_handlers bytes earlier (h ∷ hs) before none =

@@ -53,7 +53,7 @@ split_lines (x ∷ scripts) (suc k) lines at =
     let more = split_lines scripts k lines at in
     (more.0, ap (λ v. x ++ v) more.1 ∙ sym (append_assoc x (all_lines (take k scripts)) (lines ++ more.0)))
 
--- all lines: those before a line, the line, and what is behind it
+-- all lines: those before a line, the line, and what is after it
 around : (scripts : List (List SyncLine)) (k : ℕ) (before : List SyncLine) (l : SyncLine) → StandsBehind scripts k before l → (behind : List SyncLine) × (all_lines scripts ≡ before ++ l ∷ behind)
 around scripts k before l h =
     let more = split_lines scripts k (h.above ++ l ∷ h.below) h.there in (
@@ -113,7 +113,7 @@ module _ (scripts : List (List SyncLine)) where
       let one = one_line scripts k n h.before g.before h.line g.line h.stands g.stands (h.full ∙ sym g.full) in
       (one.0, h.numbered ∙ ap (λ (l : SyncLine). l.line) one.1 ∙ sym g.numbered)
 
-  -- a second post isn't behind another
+  -- a second post isn't after another
   not_behind : (k n number other : ℕ) (h : IsSecondPost scripts k number) (g : IsSecondPost scripts n other) → length h.before < length g.before → ⊥
   not_behind k n number other h g less =
       let first = around scripts k h.before h.line h.stands in

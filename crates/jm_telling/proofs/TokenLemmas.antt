@@ -60,7 +60,7 @@ drop_behind : (text behind : List ℕ) → drop (length text) (text ++ behind) �
 drop_behind [] behind = refl
 drop_behind (x ∷ text) behind = drop_behind text behind
 
--- what stands behind a pattern
+-- what stands after a pattern
 behind_pattern : (bytes pattern : List ℕ) → starts_with nat_eq bytes pattern ≡ true → bytes ≡ pattern ++ drop (length pattern) bytes
 behind_pattern bytes pattern h = (starts_is Decides-eqb bytes pattern (starts_with nat_eq bytes pattern) refl).0 h
 
@@ -191,7 +191,7 @@ line_says bytes h =
       says = line_comment (take k rest) (drop k rest) (front_passes no_feed rest) (feed_stops rest);
     }
 
--- behind `/*`
+-- after `/*`
 record Closes (bytes : List ℕ) (n : ℕ) : Type 0 where
   text : List ℕ
   behind : List ℕ
@@ -321,7 +321,7 @@ module _ (q : ℕ) where
             let same : x ≡ b = sym (head_is is) in
             ap (λ v. takes_along (not (v == backslash) && y == backslash) before) same ∙ ap (λ v. takes_along (not v && y == backslash) before) takes ∙ within.taken before behind (ap (drop 2) is)
 
--- behind a quote
+-- after a quote
 record Quotes (quote : ℕ) (bytes : List ℕ) (n : ℕ) : Type 0 where
   text : List ℕ
   behind : List ℕ
@@ -330,7 +330,7 @@ record Quotes (quote : ℕ) (bytes : List ℕ) (n : ℕ) : Type 0 where
   within : IsInside quote text
   free : takes_along false text ≡ false
 
--- behind a quote, where no other one ends the text on its line
+-- after a quote, where no other one ends the text on its line
 record RunsOut (quote : ℕ) (bytes : List ℕ) : Type 0 where
   text : List ℕ
   behind : List ℕ
@@ -350,7 +350,7 @@ module _ (q : ℕ) (q_no_feed : (line_feed == q) ≡ false) where
   feed_says : (b : ℕ) (bs : List ℕ) → (b == line_feed) ≡ true → TextSays q (b ∷ bs) None
   feed_says b bs e = record { text = []; behind = b ∷ bs; split = refl; within = inside_nothing q; ends = is_that b line_feed e }
 
-  -- behind a line feed nothing of the text stands
+  -- after a line feed nothing of the text stands
   feed_first : (c : ℕ) (bs : List ℕ) → (c == line_feed) ≡ true → text_rest q (c ∷ bs) ≡ None
   feed_first c [] e = subst (λ v. text_rest q (v ∷ []) ≡ None) (sym (is_that c line_feed e)) (rw q_no_feed refl)
   feed_first c (d ∷ bs) e = subst (λ v. text_rest q (v ∷ d ∷ bs) ≡ None) (sym (is_that c line_feed e)) (rw q_no_feed refl)
@@ -584,7 +584,7 @@ module _ (f : ℕ) (walks : Walks f) (front : List ℕ) (b : ℕ) (bs : List ℕ
     abbrev line_then : ℕ
     line_then = line + line_feeds (take n (b ∷ bs))
 
-    -- the tokens behind
+    -- the tokens after
     told_behind : (tokens : List Token) → tokens_behind 0 (drop n (b ∷ bs)) (length front + n) line_then ≡ Ok tokens → Told (front ++ s.text) s.behind tokens
     told_behind tokens cut =
         let short : length s.behind ≤ f = let lengths = ap (λ (v : List ℕ). length v) s.split in omega (arith, lengths, length-append s.text s.behind, s.long, s.some, fuel) in

@@ -19,14 +19,14 @@ abbrev pub EndsLine : Text → Type 0
 EndsLine [] = Unit {0}
 EndsLine (b ∷ bs) = b ≡ line_feed
 
--- with these bytes behind it: a byte of white space, a comment up to the end of its line, or one up to the first `*/`
+-- with these bytes after it: a byte of white space, a comment up to the end of its line, or one up to the first `*/`
 pub data IsDropped : Text → Text → Type 0 where
   white : (b : ℕ) (behind : Text) → is_white b ≡ true → IsDropped (b ∷ []) behind
   line_comment : (text behind : Text) → list_all (λ b. not (b == line_feed)) text ≡ true → EndsLine behind
       → IsDropped (codes "//" ++ text) behind
   comment : (text behind : Text) → HasNoEnd text → IsDropped (codes "/*" ++ text ++ codes "*/") behind
 
--- any number of these, one behind the other
+-- any number of these, one after the other
 pub data AreDropped : Text → Text → Type 0 where
   nothing : (behind : Text) → AreDropped [] behind
   more : (first rest behind : Text) → IsDropped first (rest ++ behind) → AreDropped rest behind
@@ -47,7 +47,7 @@ TokensTile = (bytes : Text) (tokens : List Token) → AreTokensOf bytes tokens �
 
 -- ---- where a token stands
 
--- the bytes before a token, its text, and the bytes behind it
+-- the bytes before a token, its text, and the bytes after it
 pub record IsBetween (bytes : Text) (token : Token) : Type 0 where
   pub before : Text
   pub text : Text
@@ -69,7 +69,7 @@ ends_word [] = false
 ends_word (b ∷ []) = is_word_byte b
 ends_word (b ∷ c ∷ bs) = ends_word (c ∷ bs)
 
--- The token is a word that neither the byte before it nor the one behind it continues.
+-- The token is a word that neither the byte before it nor the one after it continues.
 pub record IsWholeWord (bytes : Text) (token : Token) : Type 0 where
   pub at : IsBetween bytes token
   pub made : list_all is_word_byte at.text ≡ true
@@ -102,7 +102,7 @@ MarksAreLongest = (bytes : Text) (tokens : List Token) → AreTokensOf bytes tok
 
 -- ---- texts
 
--- The byte behind these is taken along by a backslash, which isn't taken along itself. The first of them may be taken
+-- The byte after these is taken along by a backslash, which isn't taken along itself. The first of them may be taken
 -- along by one before them.
 abbrev pub takes_along : Bool → Text → Bool
 takes_along taken [] = taken
@@ -136,7 +136,7 @@ pub data IsUnclosed : Text → Type 0 where
       → IsUnclosed (quote ∷ (inside ++ behind))
   open_comment : (text : Text) → HasNoEnd text → IsUnclosed (codes "/*" ++ text)
 
--- as `TileFrom`, with these bytes behind the last
+-- as `TileFrom`, with these bytes after the last
 abbrev pub TileUpTo : Text → ℕ → Text → List Token → Type 0
 TileUpTo behind place bytes [] = AreDropped bytes behind
 TileUpTo behind place bytes (token ∷ tokens) =

@@ -88,14 +88,14 @@ pub fn what_run_wrote_is_answered_yes()
         → said ≡ codes "yes" ++ 10 ∷ [] }
 {}
 
-/// Each part of an accepted recording is a script by itself, with the same steps and objects as behind the parts before
+/// Each part of an accepted recording is a script by itself, with the same steps and objects as after the parts before
 /// it. So its text in `sweep` is the printed history of a replay of it by itself.
 pub fn parts_are_scripts()
     ensures { (specs : List Specification) (bytes : List ℕ) (parts : List RecordedPart)
         → IsRecording specs bytes parts → AllZip (IsPartAlone specs) (parts_of bytes) parts }
 {}
 
-/// The first fault of a script is one, over the same specifications and behind the same scripts.
+/// The first fault of a script is one, over the same specifications and after the same scripts.
 pub fn one_script_fault()
     ensures { (specs : List Specification) (count : ℕ) (names : List (List ℕ)) (bytes : List ℕ)
         (fault other : ScriptFault)
@@ -136,7 +136,7 @@ pub fn tokens_tile()
     ensures { TokensTile }
 {}
 
-/// A word is made of bytes of words, and neither the byte before it nor the one behind it continues it.
+/// A word is made of bytes of words, and neither the byte before it nor the one after it continues it.
 pub fn words_are_maximal()
     ensures { WordsAreMaximal }
 {}
@@ -148,7 +148,7 @@ pub fn marks_are_longest()
 {}
 
 /// A text begins with a quote and ends with the first same quote that no backslash takes along; no line feed stands in
-/// it. A backslash takes the byte behind it along, unless one before it takes it along.
+/// it. A backslash takes the byte after it along, unless one before it takes it along.
 pub fn texts_are_quoted()
     ensures { TextsAreQuoted }
 {}

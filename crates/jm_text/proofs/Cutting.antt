@@ -30,7 +30,7 @@ counted : (ends : Bool) (line more : ℕ) → cond ends (line + 1) line + more �
 counted true line more = omega arith
 counted false line more = omega arith
 
--- the line behind some bytes, the first of them passed over first
+-- the line after some bytes, the first of them passed over first
 counted_line : (b : ℕ) (bytes : List ℕ) (line : ℕ) → line_after b line + line_feeds bytes ≡ line + line_feeds (b ∷ bytes)
 counted_line b bytes line = counted (b == line_feed) line (line_feeds bytes) ∙ ap (λ n. line + n) (sym (sum_by-cons (λ x. cond (x == line_feed) 1 0) b bytes))
 
@@ -46,7 +46,7 @@ passed (suc n) (b ∷ bytes) start line h =
     let shorter : n ≤ length bytes = omega arith in
     passed n bytes (start + 1) (line_after b line) shorter ∙ (λ i. tokens_behind 0 (drop n bytes) (further i) (counted_line b (take n bytes) line i))
 
--- the piece at the front, and the tokens behind it
+-- the piece at the front, and the tokens after it
 pub front : (bytes : List ℕ) (start line n : ℕ) → 0 < n → n ≤ length bytes → piece_length (piece_of bytes) ≡ n → tokens_behind 0 bytes start line ≡ led_by (piece_of bytes) start line (tokens_behind 0 (drop n bytes) (start + n) (line + line_feeds (take n bytes)))
 front [] start line n some fits is_length = absurd (omega arith)
 front (b ∷ bytes) start line zero some fits is_length = absurd (omega arith)

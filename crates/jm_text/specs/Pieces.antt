@@ -33,18 +33,18 @@ plus k n = option_map (λ m. m + k) n
 abbrev pub line_length : List ℕ → ℕ
 line_length bytes = prefix_len (λ b. not (b == line_feed)) bytes
 
--- behind `/*`: the bytes up to and with the next `*/`
+-- after `/*`: the bytes up to and with the next `*/`
 abbrev pub comment_rest : List ℕ → Option ℕ
 comment_rest [] = None
 comment_rest (b ∷ bs) = if starts_with nat_eq (b ∷ bs) (codes "*/") then Some 2 else plus 1 (comment_rest bs)
 
--- a backslash takes the character behind it along, if that isn't a line feed (no byte of a character past ASCII is a
+-- a backslash takes the character after it along, if that isn't a line feed (no byte of a character past ASCII is a
 -- quote, so it is enough to pass over its first)
 abbrev pub escapes : List ℕ → Bool
 escapes (b ∷ c ∷ bs) = b == backslash && not (c == line_feed)
 escapes _ = false
 
--- behind a quote: the bytes up to and with the next same one on the line
+-- after a quote: the bytes up to and with the next same one on the line
 abbrev pub text_rest : ℕ → List ℕ → Option ℕ
 text_rest quote [] = None
 text_rest quote (b ∷ []) = if b == quote then Some 1 else None

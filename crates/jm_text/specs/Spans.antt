@@ -12,7 +12,7 @@ pub record LiesWithin (bytes : Text) (token : Token) : Type 0 where
 abbrev pub LieWithin : Text → List Token → Type 0
 LieWithin bytes tokens = All (LiesWithin bytes) tokens
 
--- between two places the tokens lie one behind the other, each of at least one byte
+-- between two places the tokens lie one after the other, each of at least one byte
 abbrev pub LieInOrder : ℕ → List Token → ℕ → Type 0
 LieInOrder from [] to = from ≤ to
 LieInOrder from (token ∷ tokens) to = (from ≤ token.start) × (token.start < token.end) × LieInOrder token.end tokens to

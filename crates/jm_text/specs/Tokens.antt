@@ -22,11 +22,11 @@ FitsIn limit (Gap n) = (0 < n) × (n ≤ limit)
 FitsIn limit (Cut kind n) = (0 < n) × (n ≤ limit)
 FitsIn limit Open = 0 < limit
 
--- the line behind a byte
+-- the line after a byte
 abbrev pub line_after : ℕ → ℕ → ℕ
 line_after b line = if b == line_feed then line + 1 else line
 
--- A piece that begins at this place of the file and on this line, and the tokens behind it. The line of a text or a
+-- A piece that begins at this place of the file and on this line, and the tokens after it. The line of a text or a
 -- comment that isn't closed stands in their place.
 abbrev pub led_by : Piece → ℕ → ℕ → Result (List Token) ℕ → Result (List Token) ℕ
 led_by (Gap n) start line tokens = tokens
@@ -35,7 +35,7 @@ led_by (Cut kind n) start line (Ok tokens) =
 led_by (Cut kind n) start line (Err opening) = Err opening
 led_by Open start line tokens = Err line
 
--- the tokens of the bytes behind the first few, which belong to the piece before; the first byte stands at this place
+-- the tokens of the bytes after the first few, which belong to the piece before; the first byte stands at this place
 -- and on this line
 abbrev pub tokens_behind : ℕ → Text → ℕ → ℕ → Result (List Token) ℕ
 tokens_behind taken [] start line = Ok []

@@ -63,7 +63,7 @@ fn cut(alloc: Global, bytes: &[u8]) -> Result<Vec<Token>, SpecError>
 /// How many lines end in the bytes.
 fn line_feeds(bytes: &[u8]) -> usize
     ensures value { result ≡ count_by (λ b. b == line_feed) bytes.now }
-    ensures few { result ≤ length bytes.now }
+    ensures bounded { result ≤ length bytes.now }
 {
     bytes.iter().filter(|b| **b == b'\n').count()
 }

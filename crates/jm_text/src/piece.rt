@@ -6,7 +6,7 @@ ghost use Rattle.jm_text.specs.Tokens.{FitsIn};
 
 use crate::token::TokenKind;
 
-/// A piece of a file: so many bytes that are no token, a token of so many bytes, or a text or a comment
+/// A piece of a file: a number of bytes that are no token, a token of a number of bytes, or a text or a comment
 /// that isn't closed.
 #[derive(Clone, Copy)]
 pub enum Piece {
@@ -82,7 +82,7 @@ fn word_length(bytes: &[u8]) -> usize
     bytes.len()
 }
 
-/// Behind `/*`: how many bytes the comment goes on.
+/// After `/*`: how many bytes the comment goes on.
 fn comment_rest(bytes: &[u8]) -> Option<usize>
     ensures value { result ≡ comment_rest bytes.now }
     ensures fits { IfSome result (λ n. n ≤ length bytes.now) }
@@ -95,7 +95,7 @@ fn comment_rest(bytes: &[u8]) -> Option<usize>
     None
 }
 
-/// Behind a quote: how many bytes the text goes on.
+/// After a quote: how many bytes the text goes on.
 fn text_rest(quote: u8, bytes: &[u8]) -> Option<usize>
     ensures value { result ≡ text_rest quote bytes.now }
     ensures fits { IfSome result (λ n. n ≤ length bytes.now) }
@@ -114,7 +114,7 @@ fn text_rest(quote: u8, bytes: &[u8]) -> Option<usize>
     None
 }
 
-/// Whether a backslash at the front takes the byte behind it along.
+/// Whether a backslash at the front takes the byte after it along.
 fn escapes(bytes: &[u8]) -> bool
     ensures value { result ≡ escapes bytes.now }
     ensures fits { IsTrue result → 1 < length bytes.now }

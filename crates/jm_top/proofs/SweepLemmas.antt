@@ -94,7 +94,7 @@ module _ (library : Library) (is : IsOfOne library) (l : Loaded) (here : l ≡ g
       let made = replay_text (named_entry name table) l.titles l.rules.definition script objects text (subst (λ v. IsPrintedReplay (rules_meaning l.rules.definition) v (lexicon objects (titled (named_entry name table) l.titles l.rules.definition)) text) projected printed) in
       subst (λ v. IsTextOfHistories v (script ∷ []) objects text) (sym (alone_is library is.catalogued [] l alone is.one name table named there)) made
 
--- ---- its text behind those of other parts
+-- ---- its text after those of other parts
 
 -- a piece that was made as if no part stood before it
 pub early_part : (specs : List Specification) (count : ℕ) (bytes : List ℕ) (piece : Piece) (old new : List ℕ) (count_then : ℕ) → IsPieceOf specs 0 bytes piece → count + piece.steps ≤ 200000 → count_then ≡ count + piece.steps → new ≡ old ++ piece.text.items

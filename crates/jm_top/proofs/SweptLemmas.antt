@@ -1,4 +1,4 @@
--- Parts of a recording that were replayed, one behind the other.
+-- Parts of a recording that were replayed, one after the other.
 use Rattle.std.proofs.Common.{◌≡◌, ℕ, ◌+◌, ◌≤◌, List, [], ◌∷◌, ◌++◌, length, refl, sym, ap, subst, ◌∙◌, arith, append_assoc, append-nil}
 use Rattle.jm_model.specs.declared.fault.ScriptFault.{ScriptFault}
 use Rattle.jm_sweep.specs.Recordings.{parts_of}
@@ -28,7 +28,7 @@ module _ (specs : List Specification) where
         is_text = subst (λ v. IsTextOfParts specs (before.parts ++ h.part ∷ []) v) (sym h.added) (text_more before.parts h.part old h.text before.is_text h.is_text);
       }
 
-  -- the part behind those that were swept has a fault
+  -- the part after those that were swept has a fault
   pub swept_fault : (bytes : List ℕ) (texts rest : List (List ℕ)) (text : List ℕ) (count : ℕ) (old : List ℕ) (number : ℕ) (fault : ScriptFault) → length bytes ≤ most_bytes → parts_of bytes ≡ texts ++ text ∷ rest → number ≡ length texts
       → IsSwept specs texts count old → IsScriptFault specs count [] text fault → IsRecordingFault specs bytes number fault
   swept_fault bytes texts rest text count old number fault small split numbered before is =

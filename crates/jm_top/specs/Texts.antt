@@ -43,7 +43,7 @@ verdict_text Yes = codes "yes" ++ 10 ∷ []
 verdict_text (No line) = codes "no, line " ++ decimal line ++ 10 ∷ []
 
 -- The text says the verdict on a history: whether it is a text that a run of the scripts over the specifications may
--- print, or the line behind the greatest number of whole lines with which such a text begins too.
+-- print, or the line after the greatest number of whole lines with which such a text begins too.
 pub record IsTextOfVerdict (specs : List Specification) (scripts : List (List ScriptLine)) (objects : List Text)
     (history text : Text) : Type 0 where
   pub verdict : Verdict

@@ -130,7 +130,7 @@ fn family_of(rules: &Rules, letter: Letter) -> Result<Vec<u8>, NoMemory>
     }
 }
 
-/// A text with another one behind it.
+/// A text with another one after it.
 pub(crate) fn joined(text: Vec<u8>, more: Vec<u8>) -> Result<Vec<u8>, NoMemory>
     ensures { IfOk result (λ all. all.items ≡ text.items ++ more.items) }
 {

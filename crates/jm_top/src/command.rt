@@ -28,7 +28,7 @@ use std::thread::Threads;
 /// printed history that is legal for what the specification means, and an interleaving of the scripts' steps for it, in
 /// the order that the scripts ask for: what stands above a `post` comes before what stands below its waits;
 /// for `sweep` such a text of `replay` for each part of the recording, in order, whatever number of threads works; for
-/// `audit` whether the history is such a text of `run`, or the line behind the most whole lines that one shares; for
+/// `audit` whether the history is such a text of `run`, or the line after the most whole lines that one shares; for
 /// `gen` the summaries of such histories over the workload's files; for `check` what the specifications declare, and
 /// for `coenable` their families. A refusal is the job's first fault in the order of work. `ReadFailed` and
 /// `WriteFailed` come only where the folder or the sink counted a fault. So where the job has no fault, it is told what

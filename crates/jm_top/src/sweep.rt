@@ -121,7 +121,7 @@ fn put_together(
     pieces: &[Result<Piece, ScriptError>],
 ) -> Result<Vec<u8>, Status>
     requires spans { map (span_text bytes.now) spans.now ≡ parts_of bytes.now }
-    requires few { length spans.now ≤ most_bytes + 1 }
+    requires bounded { length spans.now ≤ most_bytes + 1 }
     requires small { length bytes.now ≤ most_bytes }
     requires replayable { All (CanReplay library.now bytes.now) spans.now }
     requires pieces { AllZip
@@ -141,8 +141,8 @@ fn put_together(
     Ok(text)
 }
 
-/// Adds the text of a part, which has this number and stands after so many steps, and gives how many steps there are
-/// then. After an error the text is of no use.
+/// Adds the text of a part, which has this number and stands after a number of steps, and gives how many steps there
+/// are then. After an error the text is of no use.
 fn add_part(
     alloc: Global,
     library: &Library,
@@ -154,7 +154,7 @@ fn add_part(
 ) -> Result<u32, Status>
     requires library { IsOfOne library.now }
     requires small { length part.now ≤ most_bytes }
-    requires few { count ≤ 200000 }
+    requires bounded { count ≤ 200000 }
     requires piece { IfOk piece.now (IsPieceOf (specs_in library.now) 0 part.now) }
     ensures ok { IfOk result (HasPart (specs_in library.now) count part.now text.old.items text.new.items) }
     ensures err { IfErr result (IsNoScriptIn (specs_in library.now) count [] number part.now) }
@@ -168,7 +168,7 @@ fn add_part(
     }
 }
 
-/// Adds the text of a piece that stands after so many steps, and gives how many steps there are then.
+/// Adds the text of a piece that stands after a number of steps, and gives how many steps there are then.
 fn add_piece(count: u32, piece: &Piece, text: &mut Vec<u8>) -> Result<u32, Status>
     requires { count + piece.now.steps ≤ 200000 }
     ensures value { IfOk result (λ then. then ≡ count + piece.now.steps) }
@@ -181,7 +181,7 @@ fn add_piece(count: u32, piece: &Piece, text: &mut Vec<u8>) -> Result<u32, Statu
     }
 }
 
-/// The piece of a part that has this number and stands after so many steps.
+/// The piece of a part that has this number and stands after a number of steps.
 fn piece_after(
     alloc: Global,
     library: &Library,
@@ -191,9 +191,9 @@ fn piece_after(
 ) -> Result<Piece, Status>
     requires library { IsOfOne library.now }
     requires small { length part.now ≤ most_bytes }
-    requires few { count ≤ 200000 }
+    requires bounded { count ≤ 200000 }
     ensures ok { IfOk result (IsPieceOf (specs_in library.now) count part.now) }
-    ensures few { IfOk result (λ piece. count + piece.steps ≤ 200000) }
+    ensures bounded { IfOk result (λ piece. count + piece.steps ≤ 200000) }
     ensures err { IfErr result (IsNoScriptIn (specs_in library.now) count [] number part.now) }
 {
     match piece_of(alloc, library, part, count) {
@@ -208,13 +208,13 @@ fn piece_after(
     }
 }
 
-/// The piece of a part that stands after so many steps.
+/// The piece of a part that stands after a number of steps.
 fn piece_of(alloc: Global, library: &Library, part: &[u8], count: u32) -> Result<Piece, ScriptError>
     requires library { IsOfOne library.now }
     requires small { length part.now ≤ most_bytes }
-    requires few { count ≤ 200000 }
+    requires bounded { count ≤ 200000 }
     ensures ok { IfOk result (IsPieceOf (specs_in library.now) count part.now) }
-    ensures few { IfOk result (λ piece. count + piece.steps ≤ 200000) }
+    ensures bounded { IfOk result (λ piece. count + piece.steps ≤ 200000) }
     ensures fault { (fault : ScriptFault) → result ≡ Err (ScriptError.Bad fault)
         → IsScriptFault (specs_in library.now) count [] part.now fault }
 {

@@ -29,7 +29,7 @@ const DOUBLINGS: u32 = 4;
 // A look costs processor time, which a seat has to have earned; without looks it sleeps.
 pub fn hold_back<V: Kept, R: Wait>(rt: &R, table: &SharedTable<V>, looks: &mut u32)
     requires shape { IsShaped table.now.table_id }
-    ensures few { looks.new ≤ 1000 }
+    ensures bounded { looks.new ≤ 1000 }
 {
     *looks = looks.saturating_add(EARNED).min(MOST_LOOKS);
     for nap in 0..NAPS {
@@ -55,7 +55,7 @@ fn finds_quiet<V: Kept>(table: &SharedTable<V>, looks: &mut u32) -> bool
     true
 }
 
-// Sleeps for so many microseconds, on a word of its own, on which nobody wakes it.
+// Sleeps for the given number of microseconds, on a word of its own, on which nobody wakes it.
 fn sleep<R: Wait>(rt: &R, micros: u64) {
     AtomicU64::new(0).park_timeout(rt, 0, Duration::from_micros(micros));
 }

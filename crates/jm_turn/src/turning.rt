@@ -25,14 +25,14 @@ const SLEEP_MODULUS: u64 = 1 << 32;
 pub fn draw<V: Kept>(table: &SharedTable<V>, place: &mut TableSeat<V>) -> u64
     requires shape { IsShaped table.now.table_id }
     requires idle { IsIdle (lock_over V.fixed_part table.now) place.old }
-    ensures same { IsSameSeat place.old place.new }
+    ensures unchanged { IsSameSeat place.old place.new }
     ensures ticket { HasDrawn result place.old.me place.new.me }
 {
     table.fetch_add::<Draw>(place, TICKET, 1)
 }
 
-// Looks until the ticket is served. After so many looks it sleeps between them, and is counted among the sleepers until
-// its turn has come. No other loop of the lock may wait without an end.
+// Looks until the ticket is served. After a number of looks it sleeps between them, and is counted among the sleepers
+// until its turn has come. No other loop of the lock may wait without an end.
 pub fn await_turn<V: Kept, R: Wait>(
     rt: &R,
     table: &SharedTable<V>,
@@ -42,7 +42,7 @@ pub fn await_turn<V: Kept, R: Wait>(
 )
     requires shape { IsShaped table.now.table_id }
     requires waiting { IsWaiting (lock_over V.fixed_part table.now) ticket place.old }
-    ensures same { IsSameSeat place.old place.new }
+    ensures unchanged { IsSameSeat place.old place.new }
     ensures turn { TurnComes V.entries V.caller_of V.fixed_part place.old.me place.new.me }
 {
     let mut looks = LOOKS;
@@ -77,7 +77,7 @@ pub fn run_act<V: Kept + Drop, A: Act<V>>(
     requires shape { IsShaped table.now.table_id }
     requires seat { place.old.table_id ≡ table.now.table_id }
     requires holder { (y : V) × Holds place.old.me y × A.suits act (V.fixed_part y) }
-    ensures same { IsSameSeat place.old place.new }
+    ensures unchanged { IsSameSeat place.old place.new }
     ensures run { HasRun V.entries V.caller_of V.fixed_part (A.number act) (A.relates act) result
         place.old.me place.new.me }
 {
@@ -96,7 +96,7 @@ pub fn run_act<V: Kept + Drop, A: Act<V>>(
 pub fn pass_on<V: Kept>(table: &SharedTable<V>, place: &mut TableSeat<V>)
     requires shape { IsShaped table.now.table_id }
     requires acted { HasActed V.entries V.caller_of V.fixed_part (lock_over V.fixed_part table.now) place.old }
-    ensures same { IsSameSeat place.old place.new }
+    ensures unchanged { IsSameSeat place.old place.new }
     ensures passed { HasPassedOn V.entries place.old.me place.new.me }
 {
     table.fetch_add::<PassOn>(place, SERVING, 1);

@@ -3,7 +3,7 @@ use jm_machine::{Configuration, Rules};
 use jm_model::{Letter, Monitor, NoMemory};
 use std::cell::Cell;
 
-/// Rules of which some calls of `next` in a row answer NoMemory: so many, behind so many others.
+/// Rules of which some calls of `next` in a row answer NoMemory: so many, after so many others.
 #[derive(Drop)]
 pub(crate) struct Stingy {
     rules: Rules,

@@ -52,7 +52,7 @@ fn held_text(alloc: Global, case: &Case, ere: &Ere, table: &Table) -> Result<Str
     Ok(states_text(alloc, &names, table, &case.second)?)
 }
 
-/// Whether the expressions of a case, the text's and the one behind the events, have the same table.
+/// Whether the expressions of a case, the text's and the one after the events, have the same table.
 pub(crate) fn same(alloc: Global, case: &Case) -> Result<String, AllocError> {
     or_fault(alloc, same_text(alloc, case))
 }
@@ -116,7 +116,7 @@ fn is_same_at(one: &Table, other: &Table, state: u16) -> bool
     same
 }
 
-/// The expression of a formula, which stands behind a token on line 50.
+/// The expression of a formula, which stands after a token on line 50.
 fn ere_of(alloc: Global, events: &EventTable, formula: &[u8]) -> Result<Ere, SpecError> {
     let all = tokens_of(alloc, formula)?;
     read(alloc, formula, &all, 50, events)

@@ -51,7 +51,7 @@ fn held_text(alloc: Global, case: &Case, machine: &Fsm, table: &Table) -> Result
     Ok(words_text(alloc, &names, table, &case.second)?)
 }
 
-/// The machine of a formula, which stands behind a token on line 50.
+/// The machine of a formula, which stands after a token on line 50.
 fn machine_of(alloc: Global, events: &EventTable, formula: &[u8]) -> Result<Fsm, SpecError> {
     let all = tokens_of(alloc, formula)?;
     read(alloc, formula, &all, 50, events)

@@ -12,7 +12,7 @@ use testkit::Case;
 
 /// For the empty word, and for each word of the case, whose digits are letters, whether some word that follows leads to
 /// a match and has none of the dead parameters, `+` or `-` for each of the case's sets of dead parameters; and then the
-/// family of each letter. The words stand before a `|`, the sets behind it.
+/// family of each letter. The words stand before a `|`, the sets after it.
 pub(crate) fn needs(alloc: Global, case: &Case) -> Result<String, SpecError> {
     let events = events_of(alloc, case.first.as_str())?;
     over_events(alloc, case, &events)

@@ -50,7 +50,7 @@ fn held_text(alloc: Global, case: &Case, past: &Past, table: &Table) -> Result<S
     Ok(words_text(alloc, &names, table, &case.second)?)
 }
 
-/// The formula of a text, which stands behind a token on line 50.
+/// The formula of a text, which stands after a token on line 50.
 fn past_of(alloc: Global, events: &EventTable, formula: &[u8]) -> Result<Past, SpecError> {
     let all = tokens_of(alloc, formula)?;
     read(alloc, formula, &all, 50, events)

@@ -1,4 +1,4 @@
-//! Charts of grammars. A case has the grammar behind its verb, and words in its text, where `-` is the empty word. The
+//! Charts of grammars. A case has the grammar after its verb, and words in its text, where `-` is the empty word. The
 //! events are `a` and `b`: the first has one parameter, and the second another.
 
 ghost use Rattle.std.specs.Prelude.{◌≡◌, ◌≤◌, ◌↔◌, All, IsTrue, IfOk, length};

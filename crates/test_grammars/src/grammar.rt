@@ -13,7 +13,7 @@ use testkit_tokens::{events_of, or_fault, tokens_of};
 
 /// What a case asks of its formula, over its events, or the formula's fault: the start and the productions (`grammar`),
 /// the same without what spells no word (`reduce`), how many productions there are (`size`), the same where the rule
-/// may begin anywhere (`suffix`), or the nonterminals that spell a word of the letters behind the events, by their bits
+/// may begin anywhere (`suffix`), or the nonterminals that spell a word of the letters after the events, by their bits
 /// (`productive`).
 pub(crate) fn answer(alloc: Global, case: &Case) -> Result<String, AllocError> {
     or_fault(alloc, case_text(alloc, case))
@@ -116,7 +116,7 @@ fn counts_text(
     format!(in alloc; "{all} productions, {kept} from {start}, productive {productive}")
 }
 
-/// The grammar of a formula, which stands behind a token on line 50.
+/// The grammar of a formula, which stands after a token on line 50.
 fn grammar_of(
     alloc: Global,
     events: &EventTable,

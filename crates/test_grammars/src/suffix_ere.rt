@@ -36,7 +36,7 @@ fn held_text(alloc: Global, case: &Case, ere: &Ere, table: &Table) -> Result<Str
     Ok(words_text(alloc, &names, table, &case.second)?)
 }
 
-/// The expression of a formula, which stands behind a token on line 50.
+/// The expression of a formula, which stands after a token on line 50.
 fn ere_of(alloc: Global, events: &EventTable, formula: &[u8]) -> Result<Ere, SpecError> {
     let all = tokens_of(alloc, formula)?;
     read(alloc, formula, &all, 50, events)

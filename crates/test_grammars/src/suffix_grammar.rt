@@ -71,7 +71,7 @@ fn charts_of(alloc: Global, events: &EventTable, formula: &[u8]) -> Result<Chart
     Ok(Charts::new(alloc, grammar, events)?)
 }
 
-/// The grammar of a formula, which stands behind a token on line 50.
+/// The grammar of a formula, which stands after a token on line 50.
 fn grammar_of(alloc: Global, events: &EventTable, formula: &[u8]) -> Result<Grammar, SpecError> {
     let all = tokens_of(alloc, formula)?;
     read(alloc, formula, &all, 50, events, true)

@@ -6,8 +6,8 @@ use jm_goal::Goal;
 use std::alloc::{AllocError, Global};
 use testkit::Case;
 
-/// The goal of the groups behind the verb, with the creation letters, what has to be bound and the handlers that reset
-/// behind them.
+/// The goal of the groups after the verb, with the creation letters, what has to be bound and the handlers that reset
+/// after them.
 pub(crate) fn goal(alloc: Global, case: &Case) -> Result<String, AllocError> {
     let groups = groups_of(alloc, &case.first)?;
     let (creation, rest) = case.second.split_once(' ').unwrap_or(("", ""));

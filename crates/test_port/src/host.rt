@@ -74,7 +74,7 @@ fn puts<S: Sink>(alloc: Global, sink: &mut S, case: &Case) -> Result<String, All
     Ok(answer)
 }
 
-/// A printer whose calls do as the words say: `interrupted`, or write so many bytes. Behind the last word the pipe is
+/// A printer whose calls do as the words say: `interrupted`, or write so many bytes. After the last word the pipe is
 /// closed.
 #[derive(Drop)]
 struct Printer<'a> {

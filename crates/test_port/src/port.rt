@@ -4,7 +4,7 @@ use std::alloc::{AllocError, Global};
 use testkit::{Case, put_line, text_of};
 use testkit_files::{calls_of, files, sink_of};
 
-/// The loads `NAME:LIMIT` of the words from a folder of the text's files, of which those behind the `/` fail.
+/// The loads `NAME:LIMIT` of the words from a folder of the text's files, of which those after the `/` fail.
 pub(crate) fn memory_folder(alloc: Global, case: &Case) -> Result<String, AllocError> {
     let fail = calls_of(alloc, case.second.as_str())?;
     let mut folder = MemoryFolder::new(files(alloc, case.text.as_slice())?, fail);
@@ -32,7 +32,7 @@ fn loads<F: Folder>(alloc: Global, folder: &mut F, words: &str) -> Result<String
     Ok(answer)
 }
 
-/// The puts of the text into a sink of `STEP / CALL..`, and behind each what was written so far.
+/// The puts of the text into a sink of `STEP / CALL..`, and after each what was written so far.
 pub(crate) fn memory_sink(alloc: Global, case: &Case) -> Result<String, AllocError> {
     let words = format!(in alloc; "{} {}", case.first, case.second)?;
     let mut sink = sink_of(alloc, words.as_str())?;

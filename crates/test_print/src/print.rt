@@ -13,7 +13,7 @@ use std::alloc::{AllocError, Global};
 use testkit::{Case, text_of};
 use testkit_tokens::table_of;
 
-/// The history of a text's lines, each a line's number and a kind of entry, and its summary. Behind the `/` stand the
+/// The history of a text's lines, each a line's number and a kind of entry, and its summary. After the `/` stand the
 /// blocks of the handlers, with `|` between.
 pub(crate) fn print(alloc: Global, case: &Case) -> Result<String, SpecError> {
     let text = text_of(case.text.as_slice());

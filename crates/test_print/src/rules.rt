@@ -10,7 +10,7 @@ use std::alloc::{AllocError, Global};
 use testkit::{Case, byte_of, text_of};
 
 /// What a specification declares. The words are its name, its logics with commas between and maybe `full-binding` and
-/// `suffix`; behind the `/` stand the names of its handlers. The first line has the parameters, and each other line an
+/// `suffix`; after the `/` stand the names of its handlers. The first line has the parameters, and each other line an
 /// event: its name, its mask and maybe `creation`.
 pub(crate) fn check(alloc: Global, case: &Case) -> Result<String, SpecError> {
     let table = table_of(alloc, text_of(case.text.as_slice()))?;
@@ -32,7 +32,7 @@ pub(crate) fn check(alloc: Global, case: &Case) -> Result<String, SpecError> {
     Ok(without_last_line_feed(alloc, page.as_slice())?)
 }
 
-/// The coenable sets of a specification of this name. The lines are as in `check`, and behind a `:` stand the masks of
+/// The coenable sets of a specification of this name. The lines are as in `check`, and after a `:` stand the masks of
 /// the event's family.
 pub(crate) fn coenable(alloc: Global, case: &Case) -> Result<String, SpecError> {
     let text = text_of(case.text.as_slice());
@@ -49,7 +49,7 @@ fn has_word(text: &str, wanted: &str) -> bool {
     text.split_whitespace().any(|word| word == wanted)
 }
 
-/// A word, and what stands behind it.
+/// A word, and what stands after it.
 fn halves(text: &str) -> (&str, &str) {
     text.split_once(' ').unwrap_or((text, ""))
 }

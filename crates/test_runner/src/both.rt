@@ -38,7 +38,7 @@ pub(crate) fn both<R: Threads + Wait + Sync>(
     shown(alloc, format!(in alloc; "{missed} missed")?, &props)
 }
 
-/// Puts the histories behind a text, line by line.
+/// Puts the histories after a text, line by line.
 pub(crate) fn shown(
     alloc: Global,
     mut text: String,

@@ -9,7 +9,7 @@ use jm_script::{Block, Catalog, CompactScript, read_compact};
 use std::alloc::{AllocError, Global};
 use testkit::Case;
 
-/// The lines of a script, and behind a `/` its steps for a specification.
+/// The lines of a script, and after a `/` its steps for a specification.
 pub(crate) fn compact(alloc: Global, case: &Case) -> Result<String, SpecError> {
     let catalog = catalog_of(alloc, case.first.as_str())?;
     let spec = case.second.parse::<u8>().unwrap_or(255);

@@ -83,7 +83,7 @@ fn put_handlers(
     Ok(())
 }
 
-/// Appends the tokens of a range, with a comma behind each.
+/// Appends the tokens of a range, with a comma after each.
 fn put_range(
     out: &mut String,
     bytes: &[u8],

@@ -12,8 +12,8 @@ pub(crate) fn answer(alloc: Global, case: &Case) -> Result<String, AllocError> {
     or_no_memory(alloc, answered(alloc, case))
 }
 
-/// The answer over the number of objects behind the `/`. The rules are those of the case's text, or the table whose
-/// name stands behind that number: `unsafe_iter`, or `tick` with what a reported instance has to bind.
+/// The answer over the number of objects after the `/`. The rules are those of the case's text, or the table whose
+/// name stands after that number: `unsafe_iter`, or `tick` with what a reported instance has to bind.
 fn answered(alloc: Global, case: &Case) -> Result<String, NoMemory> {
     let (objects, table) = case
         .second
@@ -63,7 +63,7 @@ fn told<M: Monitor>(
 }
 
 /// The answer of each word, with a space between two: of a step, as `event:LETTER:BINDING`, `death:OBJECT` or `pass`,
-/// its outcome; and of `lists` the stored bindings and the marks. Behind these stand the lines for answers that differ.
+/// its outcome; and of `lists` the stored bindings and the marks. After these stand the lines for answers that differ.
 fn steps<M: Monitor>(
     alloc: Global,
     words: &str,

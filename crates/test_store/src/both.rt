@@ -16,7 +16,7 @@ pub(crate) struct Both<'a, M: Monitor> {
     agree: u64,
     fired: u64,
     kept: u64,
-    /// The lines, each behind a line feed.
+    /// The lines, each after a line feed.
     pub(crate) differ: String,
 }
 
@@ -109,7 +109,7 @@ fn lists_shown(alloc: Global, stored: &[Binding], marks: &[Binding]) -> Result<S
     Ok(out)
 }
 
-/// Puts each of the bindings behind a text, with a space before it where it isn't the first word.
+/// Puts each of the bindings after a text, with a space before it where it isn't the first word.
 fn put_bindings(alloc: Global, out: &mut String, bindings: &[Binding]) -> Result<(), AllocError> {
     for binding in bindings {
         let shown = binding_shown(alloc, binding)?;

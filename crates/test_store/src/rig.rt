@@ -88,7 +88,7 @@ impl<'a, M: Monitor> Rig<'a, M> {
         requires parts { blank.parts ≡ L.parts }
         requires one { blank.parts ≡ 1 }
         requires event { IsLiveEvent (M.meaning self.old.0) self.old.1 letter.0 binding.now }
-        requires there { AreBelow (length self.old.1) binding.now }
+        requires in_range { AreBelow (length self.old.1) binding.now }
     {
         let mut steps = Steps::<L>::new(blank);
         let plan = self

@@ -56,7 +56,7 @@ fn act(awake: &mut Awake, verb: &str, first: &str, second: &str) {
     }
 }
 
-/// Wakes a slot of an instance, which rests at the letters whose bits the number behind it has.
+/// Wakes a slot of an instance, which rests at the letters whose bits the number after it has.
 fn wake(awake: &mut Awake, slot: usize, words: &str, mourns: bool, grows: bool) {
     let (instance, resting) = words.split_once(' ').unwrap_or((words, ""));
     awake.wake(
@@ -76,7 +76,7 @@ fn tidy(awake: &mut Awake, letter: Letter, binding: &str)
     }
 }
 
-/// Makes the list of a letter and a binding, of the slots behind it.
+/// Makes the list of a letter and a binding, of the slots after it.
 fn list(alloc: Global, awake: &mut Awake, letter: Letter, words: &str) -> Result<(), NoMemory>
     requires { letter.0 < 32 }
 {
@@ -89,7 +89,7 @@ fn list(alloc: Global, awake: &mut Awake, letter: Letter, words: &str) -> Result
     Ok(())
 }
 
-/// The entries of the list of a letter and a binding. Behind one that isn't whole any more stands a `+`, behind one that
+/// The entries of the list of a letter and a binding. After one that isn't whole any more stands a `+`, after one that
 /// doesn't count any more a `-`.
 fn list_shown(
     alloc: Global,

@@ -38,7 +38,7 @@ fn entry_of(alloc: Global, line: &str) -> Result<Entry, NoMemory> {
 }
 
 /// What each node tells of the entries of the text's lines, then how many entries their history has, the entries that
-/// it lends, and those that it copies. The entries behind a line `rows` stand in a row, those before it in links.
+/// it lends, and those that it copies. The entries after a line `rows` stand in a row, those before it in links.
 pub(crate) fn history(alloc: Global, case: &Case) -> Result<String, NoMemory> {
     let mut history = History::new();
     let mut out = String::new(alloc);

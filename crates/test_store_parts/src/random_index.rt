@@ -21,7 +21,7 @@ struct Rows {
 }
 
 /// How many of so many rows differ, and whether each kind of answer came often. The case's words are the number of
-/// parameters and of objects, and behind the `/` that of rows.
+/// parameters and of objects, and after the `/` that of rows.
 pub(crate) fn random_index(alloc: Global, case: &Case) -> Result<String, NoMemory> {
     let (parameters, objects) = case.first.as_str().split_once(' ').unwrap_or(("8", "8"));
     let mut rows = Rows {

@@ -20,7 +20,7 @@ struct Rows {
 }
 
 /// How many of so many rows differ, and whether each answer came often. The case's words are the number of parameters
-/// and of objects, and behind the `/` that of rows.
+/// and of objects, and after the `/` that of rows.
 pub(crate) fn random_marks(alloc: Global, case: &Case) -> Result<String, NoMemory> {
     let (parameters, objects) = case.first.as_str().split_once(' ').unwrap_or(("8", "8"));
     let mut rows = Rows {

@@ -105,7 +105,7 @@ fn print_many<R: Print>(rt: &R, alloc: Global) -> io::Result<()> {
     print_row(rt, many_checked(alloc, b"", b"\npost x"))
 }
 
-/// Whether 65,536 lines that post, with these lines behind them, and another script can be run.
+/// Whether 65,536 lines that post, with these lines after them, and another script can be run.
 fn many_checked(alloc: Global, last: &[u8], other: &[u8]) -> Result<String, NoMemory> {
     let first = many(alloc, 65_536, last)?;
     checked(alloc, &[&first, other])

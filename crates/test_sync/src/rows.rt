@@ -65,7 +65,7 @@ fn cut_small(alloc: Global, bytes: &[u8], names: &mut Names) -> Result<Cut, NoMe
     cut(alloc, bytes, names)
 }
 
-/// So many lines that post a name each, and these lines behind them.
+/// So many lines that post a name each, and these lines after them.
 pub(crate) fn many(alloc: Global, count: u32, last: &[u8]) -> Result<Vec<u8>, NoMemory> {
     let mut out = Vec::new(alloc);
     for number in 0..count {

@@ -14,7 +14,7 @@ pub(crate) fn counts_text(alloc: Global, table: Table) -> Result<String, SpecErr
     Ok(format!(in alloc; "{before} {}", table.len())?)
 }
 
-/// Each state, where its letters lead, and behind a colon the groups that it is in.
+/// Each state, where its letters lead, and after a colon the groups that it is in.
 pub(crate) fn table_text(alloc: Global, table: &Table) -> Result<String, AllocError>
     requires { length table.now.groups ≡ 2 }
 {

@@ -1,4 +1,4 @@
-//! Tables of circles. A case has the last number of its circle, and behind it, if one is there, the number from which
+//! Tables of circles. A case has the last number of its circle, and after it, if one is there, the number from which
 //! no letter leads on; then how many letters there are.
 
 ghost use Rattle.std.specs.Prelude.{ℕ, ◌≡◌, ◌<◌, ◌≤◌, ◌+◌, ◌↔◌, [], All, IsTrue, IfOk, OnOk, length};

@@ -10,9 +10,9 @@ use std::thread::Threads;
 use testkit::{Case, put_line, text_of};
 use testkit_files::{calls_of, files, sink_of};
 
-/// How the command of the case's words ends, and what is written to its two sinks. The words behind the `/` say what
+/// How the command of the case's words ends, and what is written to its two sinks. The words after the `/` say what
 /// fails: `read-fails CALL..`, or `write STEP CALL..` for a sink that takes STEP bytes at a time. `loads CALL` asks
-/// whether the load with this number, of all from 0 on, is the one that comes behind the command, of a file `x`.
+/// whether the load with this number, of all from 0 on, is the one that comes after the command, of a file `x`.
 pub(crate) fn run<R: Threads + Wait + Sync>(
     rt: &R,
     alloc: Global,
@@ -54,7 +54,7 @@ fn read_fails<R: Threads + Wait + Sync>(
     shown(alloc, &status, out.bytes(), err.bytes())
 }
 
-/// Whether the load behind the command is the one that fails, and so has this number; and how the command ends.
+/// Whether the load after the command is the one that fails, and so has this number; and how the command ends.
 fn loads<R: Threads + Wait + Sync>(
     rt: &R,
     alloc: Global,

@@ -6,7 +6,7 @@ use std::alloc::{AllocError, Global};
 pub struct Case {
     /// What is to be done.
     pub verb: String,
-    /// The words behind the verb, and those behind the `/`, as they stand.
+    /// The words after the verb, and those after the `/`, as they stand.
     pub first: String,
     pub second: String,
     /// The lines of the text, each but the last with its line feed.

@@ -45,7 +45,7 @@ fn digit(byte: u8) -> u8
     }
 }
 
-/// Appends what `COUNT TEXT}` at the front stands for, and gives what is behind it.
+/// Appends what `COUNT TEXT}` at the front stands for, and gives what is after it.
 fn repeat<'a>(alloc: Global, out: &mut Vec<u8>, text: &'a [u8]) -> Result<&'a [u8], AllocError> {
     let end = text
         .iter()
@@ -76,7 +76,7 @@ fn number_of(digits: &[u8]) -> u32 {
     number
 }
 
-/// Appends a text behind the space at its front, with a number in the place of each `#`.
+/// Appends a text after the space at its front, with a number in the place of each `#`.
 fn put_once(alloc: Global, out: &mut Vec<u8>, text: &[u8], number: u32) -> Result<(), AllocError> {
     for byte in text.iter().skip(1) {
         if *byte == b'#' {

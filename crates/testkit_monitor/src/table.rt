@@ -61,7 +61,7 @@ impl Table {
     }
 
     /// Doors and keys: an unlocking of both parameters, a locking of the first and a pass of the second. The handler is
-    /// hit by a pass behind an unlocking, with no locking between.
+    /// hit by a pass after an unlocking, with no locking between.
     pub fn doors() -> Table {
         Table {
             params: [3, 1, 2],

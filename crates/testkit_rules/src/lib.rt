@@ -19,7 +19,7 @@ pub fn rules_of(alloc: Global, bytes: &[u8]) -> Result<Rules, SpecError> {
 
 fn compiled(alloc: Global, bytes: &[u8], tokens: &[Token]) -> Result<Rules, SpecError>
     requires within { LieWithin bytes.now tokens.now }
-    requires few { length tokens.now < 2 ^ 32 }
+    requires bounded { length tokens.now < 2 ^ 32 }
 {
     let tree = read_spec(alloc, bytes, tokens)?;
     Rules::compile(alloc, bytes, tokens, &tree)

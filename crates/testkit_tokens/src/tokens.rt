@@ -9,7 +9,7 @@ use std::str::from_utf8;
 /// The tokens of bytes, if neither are too many.
 pub fn tokens_of(alloc: Global, bytes: &[u8]) -> Result<Vec<Token>, SpecError>
     ensures within { IfOk result (λ tokens. LieWithin bytes.now tokens.items) }
-    ensures few { IfOk result (λ tokens. length tokens.items < 2 ^ 32) }
+    ensures bounded { IfOk result (λ tokens. length tokens.items < 2 ^ 32) }
 {
     let all = cut(alloc, bytes)?;
     if all.len() > 1_000_000 {

@@ -180,7 +180,7 @@ impl<M: Monitor> Store<M> {
     ) -> Option<Done>
         requires closed { self.old.is_open ≡ false }
         requires letter { call.now.letter.0 < (M.meaning (M.definition call.now.rules.now)).letters }
-        ensures same { IfNone result (self.new ≡ self.old) }
+        ensures unchanged { IfNone result (self.new ≡ self.old) }
         ensures stays { StaysClosed self.old self.new }
         ensures done { IfSome result (IsSlotDone (M.meaning (M.definition call.now.rules.now))
             (M.StandsFor call.now.rules.now) call.now.letter.0 call.now.objects.now slot self.old self.new) }
@@ -371,7 +371,7 @@ impl<M: Monitor> Store<M> {
     fn take_none(&mut self, binding: &Binding, known: bool) -> Option<Done>
         requires closed { self.old.is_open ≡ false }
         requires known { IsTrue known → Contains self.old.marks binding.now }
-        ensures same { IfNone result (self.new ≡ self.old) }
+        ensures unchanged { IfNone result (self.new ≡ self.old) }
         ensures kept { KeepsAllButMarks self.old self.new }
         ensures closed { self.new.is_open ≡ false }
         ensures fits { (dead : List Bool) → IsFit self.old dead → AreBelow (length dead) binding.now
@@ -397,7 +397,7 @@ impl<M: Monitor> Store<M> {
         requires closed { self.old.is_open ≡ false }
         requires known { IsTrue known → Contains self.old.marks call.now.binding.now × (step.slot ≡ None → ⊥) }
         requires leads { ArePlaced self.old (step ∷ []) }
-        ensures same { IfNone result (KeepsContents self.old self.new) }
+        ensures unchanged { IfNone result (KeepsContents self.old self.new) }
         ensures closed { self.new.is_open ≡ false }
         ensures fits { StaysFit call.now.binding.now step.monitor.instance self.old self.new }
         ensures done { IfSome result (IsStepDone (M.meaning (M.definition call.now.rules.now))
@@ -429,7 +429,7 @@ impl<M: Monitor> Store<M> {
     #[inline(always)]
     fn open_for(&mut self, known: bool) -> Option<()>
         requires { self.old.is_open ≡ false }
-        ensures same { IfNone result (self.new ≡ self.old) }
+        ensures unchanged { IfNone result (self.new ≡ self.old) }
         ensures opened { IfSome result (λ done. self.new ≡ with_open self.old (not known)) }
     {
         if known {
@@ -487,7 +487,7 @@ impl<M: Monitor> Store<M> {
     /// Keeps of the letters that end monitors with its set of parameters those that end a monitor too.
     #[inline(always)]
     fn end_one(&mut self, rules: &M, monitor: &Stored<M::State>)
-        ensures same { self.new ≡ with_ending self.old self.new.ending }
+        ensures unchanged { self.new ≡ with_ending self.old self.new.ending }
         ensures fewer { EndsFewer self.old.ending self.new.ending }
         ensures ended { IsEnding (M.meaning (M.definition rules.now)) (M.StandsFor rules.now) self.new.ending
             monitor.now }

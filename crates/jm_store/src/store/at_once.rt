@@ -47,7 +47,7 @@ impl<M: Monitor> Store<M> {
             call.now.binding.now self.old }
         requires list { HasList (M.meaning (M.definition call.now.rules.now)) (M.StandsFor call.now.rules.now)
             call.now.objects.now call.now.letter.0 call.now.binding.now self.old.marks self.old.monitors awake.old place }
-        ensures same { IfNone result ((self.new ≡ self.old) × (awake.new ≡ awake.old)) }
+        ensures unchanged { IfNone result ((self.new ≡ self.old) × (awake.new ≡ awake.old)) }
         ensures marks { self.new.marks ≡ self.old.marks }
         ensures advances { Advances (M.meaning (M.definition call.now.rules.now)) (M.StandsFor call.now.rules.now)
             call.now.objects.now call.now.letter.0 call.now.binding.now self.old self.new result }
@@ -200,7 +200,7 @@ impl<M: Monitor> Store<M> {
 
     /// Takes the room for what an event makes of the monitors of a list.
     fn take_room(&mut self) -> Sifted<M::State>
-        ensures same { self.new ≡ self.old }
+        ensures unchanged { self.new ≡ self.old }
         ensures none { AreNone result.moves.items result.rests.items }
     {
         let mut rests = self.take_slots();
@@ -261,7 +261,7 @@ impl<M: Monitor> Store<M> {
     }
 }
 
-/// Makes a room as long as for so many shifts, and answers whether it could; out of memory, it can't.
+/// Makes a room for the given number of shifts, and answers whether it could; out of memory, it can't.
 fn has_room(shifts: &mut Vec<Shift>, count: usize) -> bool
     ensures { result ≡ true → count ≤ length shifts.new.items }
 {

@@ -53,7 +53,7 @@ impl<M: Monitor> Store<M> {
         requires closed { self.old.is_open ≡ false }
         ensures down { IsCutDown (M.meaning (M.definition rules.now))
             (M.StandsFor rules.now) objects.now self.old self.new }
-        ensures there { (k : ℕ) → Contains slots.now k
+        ensures present { (k : ℕ) → Contains slots.now k
             → IsSwept (M.meaning (M.definition rules.now)) (M.StandsFor rules.now) objects.now
             (monitor_at self.old.monitors k) (monitor_at self.new.monitors k) }
     {
@@ -80,7 +80,7 @@ impl<M: Monitor> Store<M> {
         requires closed { self.old.is_open ≡ false }
         ensures closed { self.new.is_open ≡ false }
         ensures monitors { (k : ℕ) → (k ≡ slot → ⊥) → monitor_at self.new.monitors k ≡ monitor_at self.old.monitors k }
-        ensures here { IsSwept (M.meaning (M.definition rules.now)) (M.StandsFor rules.now) objects.now
+        ensures swept { IsSwept (M.meaning (M.definition rules.now)) (M.StandsFor rules.now) objects.now
             (monitor_at self.old.monitors slot) (monitor_at self.new.monitors slot) }
         ensures length { length self.new.monitors ≡ length self.old.monitors }
         ensures marks { self.new.marks ≡ self.old.marks }

@@ -246,7 +246,7 @@ impl<M: Monitor> Store<M> {
     #[inline(never)]
     pub fn mourn(&mut self, awake: &mut Awake, object: u32)
         requires { flag_of self.old.index.dropped object ≡ false }
-        ensures same { self.new ≡ self.old }
+        ensures unchanged { self.new ≡ self.old }
         ensures listed { (rules : M) (dead : List Bool)
             → AreListed (M.meaning (M.definition rules)) (M.StandsFor rules) dead self.old.monitors awake.old
             → AreListed (M.meaning (M.definition rules)) (M.StandsFor rules) (after_death dead object)

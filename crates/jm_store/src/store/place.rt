@@ -72,7 +72,7 @@ impl<M: Monitor> Store<M> {
 
     /// Gives a list the room for moves with slots.
     fn lend_room(&mut self, placed: &mut Vec<Move<M::State>>)
-        ensures same { self.new ≡ self.old }
+        ensures unchanged { self.new ≡ self.old }
         ensures none { placed.new.items ≡ [] }
     {
         mem::swap(&mut self.placed, placed);
@@ -98,7 +98,7 @@ impl<M: Monitor> Store<M> {
         ensures fits { (dead : List Bool) → IsFitting self.old.index dead → AreBelow (length dead) step.monitor.instance
             → IsFitting self.new.index dead }
         ensures next { OnOk result (IsPlacedNext self.old self.new step placed.old.items placed.new.items) }
-        ensures same { OnErr result (self.new.index.list ≡ self.old.index.list) }
+        ensures unchanged { OnErr result (self.new.index.list ≡ self.old.index.list) }
         ensures none { OnErr result (placed.new.items ≡ placed.old.items) }
     {
         placed.reserve(1)?;
@@ -117,7 +117,7 @@ impl<M: Monitor> Store<M> {
         ensures fits { (dead : List Bool) → IsFitting self.old.index dead → AreBelow (length dead) instance.now
             → IsFitting self.new.index dead }
         ensures placed { IfOk result (λ slot. IsPlaced self.old self.new instance.now slot) }
-        ensures same { OnErr result (self.new.index.list ≡ self.old.index.list) }
+        ensures unchanged { OnErr result (self.new.index.list ≡ self.old.index.list) }
     {
         if self.index.has(instance) {
             return Ok(None);

@@ -17,13 +17,13 @@ use jm_objects::Objects;
 use std::mem;
 use std::sync::ledger::Ledger;
 
-/// A pass has room for so many slots, and for one for each few slots that there are, so that it needn't look at all of
-/// them where few are to be looked at.
+/// A pass has room for this number of slots, and for one for each few slots that there are, so that it needn't look at
+/// all of them where few are to be looked at.
 const MANY: usize = 64;
 
 const FEW: usize = 4;
 
-/// Makes the room that a pass has for slots, where there are so many.
+/// Makes the room that a pass has for slots, by how many there are.
 pub(super) fn make_room(slots: &mut Vec<usize>, count: usize) -> Result<(), NoMemory>
     ensures { slots.new.items ≡ slots.old.items }
 {
@@ -118,7 +118,7 @@ impl<M: Monitor> Store<M> {
         self.plan_of(call, asked.known, moves, met)
     }
 
-    /// Opens the plan of an event that makes these moves, and met so many monitors.
+    /// Opens the plan of an event that makes these moves, and met the given number of monitors.
     #[inline(always)]
     #[tactic(auto, using(crate::proofs::PlanLemmas::plans_untouched))]
     pub(super) fn plan_of(
@@ -153,7 +153,7 @@ impl<M: Monitor> Store<M> {
 
     /// Takes the room for moves, which is empty then.
     pub(super) fn take_moves(&mut self) -> Vec<Move<M::State>>
-        ensures same { self.new ≡ self.old }
+        ensures unchanged { self.new ≡ self.old }
         ensures none { result.items ≡ [] }
     {
         let alloc = *self.domains.allocator();
@@ -256,7 +256,7 @@ impl<M: Monitor> Store<M> {
 
     /// Keeps of the letters that end monitors those that end the moved ones too.
     pub(super) fn end_fewer(&mut self, rules: &M, moves: &[Move<M::State>])
-        ensures same { self.new ≡ with_ending self.old self.new.ending }
+        ensures unchanged { self.new ≡ with_ending self.old self.new.ending }
         ensures fewer { EndsFewer self.old.ending self.new.ending }
         ensures ended { AreEnding (M.meaning (M.definition rules.now)) (M.StandsFor rules.now) self.new.ending
             (reached_by moves.now) }

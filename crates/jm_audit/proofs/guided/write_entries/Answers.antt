@@ -13,7 +13,7 @@ use Rattle.jm_audit.proofs.guided.write_entries.Goals as goal
 pub new-requires-clause-fit : goal.new-requires-clause-fit
 new-requires-clause-fit g c =
     let sheets = c.args.sheets.now in
-    c.requires.fit c.args.number c.index-sheets-number.result (slice_get_read sheets (length sheets) c.args.number c.index-sheets-number.result refl c.requires.there c.index-sheets-number.is)
+    c.requires.fit c.args.number c.index-sheets-number.result (slice_get_read sheets (length sheets) c.args.number c.index-sheets-number.result refl c.requires.in_range c.index-sheets-number.is)
 
 pub loop-sheet-init : goal.loop-sheet-init
 loop-sheet-init g c =
@@ -27,7 +27,7 @@ loop-sheet-init g c =
 pub loop-sheet-preserved : goal.loop-sheet-preserved
 loop-sheet-preserved g c =
     let sheets = c.args.sheets.now in
-    let at = slice_get_read sheets (length sheets) c.args.number c.index-sheets-number.result refl c.requires.there c.index-sheets-number.is in
+    let at = slice_get_read sheets (length sheets) c.args.number c.index-sheets-number.result refl c.requires.in_range c.index-sheets-number.is in
     let one = c.in_ok-rest.ensures.written in
     record {
       ready = c.in_ok-rest.ensures.ready;

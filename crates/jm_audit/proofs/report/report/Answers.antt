@@ -9,4 +9,4 @@ returns g c =
     let m = g.M.Monitor.meaning (g.M.Monitor.definition c.args.rules.now) in
     let b = c.args.binding.now in
     subst (λ (l : List Firing). IsReport m b c.args.instances.now l) (sym (c.in_ok-firings.ensures ∙ c.as_slice.ensures.value))
-    (report_of m b c.args.instances.now _ _ c.put_in_order.ensures.increasing c.put_in_order.ensures.same c.in_ok-list.ensures)
+    (report_of m b c.args.instances.now _ _ c.put_in_order.ensures.increasing c.put_in_order.ensures.members c.in_ok-list.ensures)

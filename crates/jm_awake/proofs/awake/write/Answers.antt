@@ -3,8 +3,8 @@ use Rattle.std.proofs.lemmas.List.{length-map}
 use Rattle.jm_awake.proofs.AwakeLemmas.{room_low, row_was, written_here, written_others}
 use Rattle.jm_awake.proofs.awake.write.Goals as goal
 
-pub returns-clause-here : goal.returns-clause-here
-returns-clause-here c =
+pub returns-clause-at_key : goal.returns-clause-at_key
+returns-clause-at_key c =
     let low : c.args.letter < length c.args.rows.now.items = omega (arith, room_low _ c.args.letter c.args.path c.requires, length-map c.args.rows.now.items (λ r. r.items)) in
     written_here (λ r. r.items) c.args.rows.now.items c.args.letter c.index_mut.result.now c.write_in.new.row low c.index_mut.ensures.value c.args.path c.args.number
     (subst (λ (l : List ℕ). c.args.path < length l) (row_was (λ r. r.items) c.args.rows.now.items c.args.letter c.index_mut.result.now c.write_in.new.row low c.index_mut.ensures.value) c.requires)

@@ -11,4 +11,4 @@ returns-then-contains c =
 pub returns : goal.returns
 returns c =
     put_more c.args.sets.now.items c.args.wanted c.args.place c.args.member c.index_mut-set.result.now c.insert.new.self c.index_mut-set.ensures.value c.requires c.if-not-wanted.false
-    c.insert.ensures.member (c.insert.ensures.longer (λ there. absurd (cc (c.contains.ensures.member.1 there, c.if-contains.false)))) c.insert.ensures.few
+    c.insert.ensures.member (c.insert.ensures.longer (λ there. absurd (cc (c.contains.ensures.member.1 there, c.if-contains.false)))) c.insert.ensures.bounded

@@ -10,7 +10,7 @@ use Rattle.jm_core.proofs.live.first_dead.Goals as goal
 use Rattle.jm_core.proofs.live.first_dead.Goals.{in-Some+else-is_dead, in_default}
 
 pub is_dead-requires : goal.is_dead-requires
-is_dead-requires c = c.requires.there c.in-Some.object (c.loop-p.p, sym c.get.ensures ∙ c.in-Some.is)
+is_dead-requires c = c.requires.in_range c.in-Some.object (c.loop-p.p, sym c.get.ensures ∙ c.in-Some.is)
 
 pub returns-then-is_dead : goal.returns-then-is_dead
 returns-then-is_dead c =

@@ -28,7 +28,7 @@ pub returns-in_err-scripts-clause-err : goal.returns-in_err-scripts-clause-err
 returns-in_err-scripts-clause-err g c =
     let p = err_from_is_err_and c.from_residual-in_err-scripts.result c.from_residual-in_err-scripts.ensures.1 in
     let many = library_length (λ n. Named n) string_bytes (g.F.Folder.holds c.args.files.now) _ c.args.specs.now c.in_ok-library.library c.in_ok-library.ensures.read in
-    rw (p.1, p.2) (stopped_behind (g.F.Folder.holds c.args.files.now) (g.F.Folder.holds c.read_specifications.new.files) c.read_specifications.ensures.same c.args.setting.ordered c.args.setting.files c.args.setting.steps (c.args.setting.files + length c.in_ok-library.library.specs.items) (named (map string_bytes c.args.specs.now)) (named (map string_bytes c.args.scripts.now)) c.in_ok-library.library _
+    rw (p.1, p.2) (stopped_behind (g.F.Folder.holds c.args.files.now) (g.F.Folder.holds c.read_specifications.new.files) c.read_specifications.ensures.unchanged c.args.setting.ordered c.args.setting.files c.args.setting.steps (c.args.setting.files + length c.in_ok-library.library.specs.items) (named (map string_bytes c.args.specs.now)) (named (map string_bytes c.args.scripts.now)) c.in_ok-library.library _
     c.in_ok-library.ensures.read (omega (arith, many, length-sources (λ n. Named n) string_bytes c.args.specs.now)) c.in_err-scripts.ensures.err)
 
 pub returns-in_err-scripts-clause-read_failed : goal.returns-in_err-scripts-clause-read_failed
@@ -40,5 +40,5 @@ returns-in_err-scripts-clause-read_failed g c = λ file is.
 pub returns-clause-read : goal.returns-clause-read
 returns-clause-read g c = record {
   library = c.in_ok-library.ensures.read;
-  read = scripts_before (g.F.Folder.holds c.args.files.now) (g.F.Folder.holds c.read_specifications.new.files) c.read_specifications.ensures.same c.args.setting.ordered (specs_in c.in_ok-library.library) c.args.setting.steps (named (map string_bytes c.args.scripts.now)) c.in_ok-scripts.scripts c.in_ok-scripts.ensures.read;
+  read = scripts_before (g.F.Folder.holds c.args.files.now) (g.F.Folder.holds c.read_specifications.new.files) c.read_specifications.ensures.unchanged c.args.setting.ordered (specs_in c.in_ok-library.library) c.args.setting.steps (named (map string_bytes c.args.scripts.now)) c.in_ok-scripts.scripts c.in_ok-scripts.ensures.read;
 }

@@ -9,8 +9,8 @@ use Rattle.jm_inputs.proofs.library.given_specifications.Goals as goal
 pub loop-file-init : goal.loop-file-init
 loop-file-init c = λ contents. empty_library contents false c.new-library.result c.new-library.ensures.specs c.new-library.ensures.catalogued
 
-pub read_given-requires-clause-few : goal.read_given-requires-clause-few
-read_given-requires-clause-few c =
+pub read_given-requires-clause-bounded : goal.read_given-requires-clause-bounded
+read_given-requires-clause-bounded c =
     let many = library_count (λ b. Given b) (λ file. file.items) (λ name. None) false c.args.files.now c.loop-file.file-index c.loop-file.library (omega arith) (c.loop-file.invariant (λ name. None)) in
     omega (arith, many, c.requires, c.loop-file-test.true)
 

@@ -7,10 +7,10 @@ use Rattle.jm_inputs.proofs.JobLemmas.{risen_before}
 use Rattle.jm_inputs.proofs.LibraryLemmas.{library_turn, library_ends, library_count, whole_library}
 use Rattle.jm_inputs.proofs.library.read_specifications.Goals as goal
 
-pub read_next-requires-clause-few : goal.read_next-requires-clause-few
-read_next-requires-clause-few g c =
+pub read_next-requires-clause-bounded : goal.read_next-requires-clause-bounded
+read_next-requires-clause-bounded g c =
     let many = library_count (λ n. Named n) string_bytes (g.F.Folder.holds c.args.files.now) c.args.families c.args.names.now c.loop-name.name-index c.loop-name.library (omega arith) c.loop-name.invariant.read in
-    omega (arith, many, c.requires.few, c.loop-name-test.true)
+    omega (arith, many, c.requires.bounded, c.loop-name-test.true)
 
 pub read_next-requires-clause-catalogued : goal.read_next-requires-clause-catalogued
 read_next-requires-clause-catalogued g c = c.loop-name.invariant.read.catalogued
@@ -32,7 +32,7 @@ loop-name-preserved g c = record {
   read = library_turn (λ n. Named n) string_bytes (g.F.Folder.holds c.args.files.now) (g.F.Folder.holds c.loop-name.files) c.loop-name.invariant.same c.args.families c.args.names.now c.loop-name.name-index c.name-item.result c.loop-name-test.true c.name-item.is c.as_str.result.now c.as_str.ensures.value
       c.loop-name.library _ c.loop-name.invariant.read c.in_ok-read_next.ensures.read;
   never_falls = omega (arith, c.loop-name.invariant.never_falls, c.read_next.ensures.never_falls);
-  same = λ other. c.read_next.ensures.same other ∙ c.loop-name.invariant.same other;
+  same = λ other. c.read_next.ensures.unchanged other ∙ c.loop-name.invariant.same other;
 }
 
 pub returns-clause-read : goal.returns-clause-read

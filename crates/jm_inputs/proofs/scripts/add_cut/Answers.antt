@@ -4,9 +4,9 @@ use Rattle.jm_inputs.specs.Reading.{specs_in}
 use Rattle.jm_inputs.proofs.ScriptLemmas.{room_after, script_cut, cut_refused, ok_then}
 use Rattle.jm_inputs.proofs.scripts.add_cut.Goals as goal
 
-pub cut-requires-clause-few : goal.cut-requires-clause-few
-cut-requires-clause-few c =
-    room_after c.args.scripts.now.posted c.args.bytes.now (length c.args.scripts.now.list.items) c.requires.counted.few_posted c.requires.few c.requires.small
+pub cut-requires-clause-bounded : goal.cut-requires-clause-bounded
+cut-requires-clause-bounded c =
+    room_after c.args.scripts.now.posted c.args.bytes.now (length c.args.scripts.now.list.items) c.requires.counted.few_posted c.requires.bounded c.requires.small
 
 pub returns-clause-read : goal.returns-clause-read
 returns-clause-read c =

@@ -11,10 +11,10 @@ use Rattle.jm_inputs.proofs.scripts.given_scripts.Goals as goal
 pub loop-file-init : goal.loop-file-init
 loop-file-init c = λ contents. no_scripts contents true (specs_in c.args.library.now) 0 c.new-scripts.result c.new-scripts.ensures.list c.new-scripts.ensures.objects c.new-scripts.ensures.count c.new-scripts.ensures.cuts c.new-scripts.ensures.posted (c.new-scripts.ensures.counted (specs_in c.args.library.now))
 
-pub read_given-requires-clause-few : goal.read_given-requires-clause-few
-read_given-requires-clause-few c =
+pub read_given-requires-clause-bounded : goal.read_given-requires-clause-bounded
+read_given-requires-clause-bounded c =
     let many = scripts_count (λ b. Given b) (λ file. file.items) (λ name. None) true (specs_in c.args.library.now) 0 c.args.files.now c.loop-file.file-index c.loop-file.scripts (omega arith) (c.loop-file.invariant (λ name. None)) in
-    omega (arith, many, c.requires.few, c.loop-file-test.true)
+    omega (arith, many, c.requires.bounded, c.loop-file-test.true)
 
 pub read_given-requires-clause-counted : goal.read_given-requires-clause-counted
 read_given-requires-clause-counted c = (c.loop-file.invariant (λ name. None)).counted
@@ -40,7 +40,7 @@ check_order-requires c =
     let files = c.args.files.now in
     let whole = whole_scripts (λ b. Given b) (λ file. file.items) (λ name. None) true (specs_in c.args.library.now) 0 files c.loop-file.file-index c.loop-file.scripts c.loop-file-test.false (c.loop-file.invariant (λ name. None)) in
     let many = scripts_length (λ b. Given b) (λ file. file.items) (λ name. None) true (specs_in c.args.library.now) 0 files c.loop-file.scripts whole in
-    rw c.as_slice-2.ensures.value (omega (arith, many, whole.counted.cut, c.requires.few))
+    rw c.as_slice-2.ensures.value (omega (arith, many, whole.counted.cut, c.requires.bounded))
 
 pub returns-in_err-check_order-clause-err : goal.returns-in_err-check_order-clause-err
 returns-in_err-check_order-clause-err c = λ contents.

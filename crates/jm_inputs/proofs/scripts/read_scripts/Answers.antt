@@ -12,10 +12,10 @@ use Rattle.jm_inputs.proofs.JobLemmas.{risen_before}
 use Rattle.jm_inputs.proofs.ScriptLemmas.{scripts_turn, scripts_end, scripts_count, scripts_length, whole_scripts, in_order, not_in_order}
 use Rattle.jm_inputs.proofs.scripts.read_scripts.Goals as goal
 
-pub read_next-requires-clause-few : goal.read_next-requires-clause-few
-read_next-requires-clause-few g c =
+pub read_next-requires-clause-bounded : goal.read_next-requires-clause-bounded
+read_next-requires-clause-bounded g c =
     let many = scripts_count (λ n. Named n) string_bytes (g.F.Folder.holds c.args.files.now) c.args.setting.ordered (specs_in c.args.library.now) c.args.setting.steps c.args.names.now c.loop-name.name-index c.loop-name.scripts (omega arith) c.loop-name.invariant.read in
-    omega (arith, many, c.requires.few, c.loop-name-test.true)
+    omega (arith, many, c.requires.bounded, c.loop-name-test.true)
 
 pub read_next-requires-clause-counted : goal.read_next-requires-clause-counted
 read_next-requires-clause-counted g c = c.loop-name.invariant.read.counted
@@ -47,7 +47,7 @@ check_order-requires g c =
     let names = c.args.names.now in
     let whole = whole_scripts (λ n. Named n) string_bytes (g.F.Folder.holds c.args.files.now) c.args.setting.ordered (specs_in c.args.library.now) c.args.setting.steps names c.loop-name.name-index c.loop-name.scripts c.loop-name-test.false c.loop-name.invariant.read in
     let many = scripts_length (λ n. Named n) string_bytes (g.F.Folder.holds c.args.files.now) c.args.setting.ordered (specs_in c.args.library.now) c.args.setting.steps names c.loop-name.scripts whole in
-    rw c.as_slice.ensures.value (omega (arith, many, whole.counted.cut, c.requires.few))
+    rw c.as_slice.ensures.value (omega (arith, many, whole.counted.cut, c.requires.bounded))
 
 pub returns-in_err-check_order-clause-err : goal.returns-in_err-check_order-clause-err
 returns-in_err-check_order-clause-err g c =

@@ -14,8 +14,8 @@ returns-in_err-tokens-clause-err c = λ fault is.
     let same = same_err (sym p.1 ∙ is) in
     no_tokens fault c.requires (subst (IsFaultOf c.args.bytes.now) (sym p.2 ∙ same) c.in_err-tokens.ensures.err)
 
-pub read_spec-requires-clause-few : goal.read_spec-requires-clause-few
-read_spec-requires-clause-few c =
+pub read_spec-requires-clause-bounded : goal.read_spec-requires-clause-bounded
+read_spec-requires-clause-bounded c =
     let few = tokens_few 0 (length c.args.bytes.now) c.in_ok-tokens.tokens.items c.in_ok-tokens.ensures.in_order in
     rw c.as_slice.ensures.value (omega (arith, few, c.requires))
 
@@ -41,5 +41,5 @@ returns-clause-ok c =
     let say = rw c.as_slice-3.ensures.value at c.in_ok-titles.ensures.texts in
     let compiled = rw c.as_slice-2.ensures.value at c.in_ok-rules.ensures.ok in
     read_of c.args.bytes.now c.in_ok-tokens.tokens.items c.requires c.in_ok-tokens.ensures.ok c.in_ok-tree.tree c.put_together.result c.in_ok-rules.rules c.in_ok-titles.titles told compiled
-    c.in_ok-rules.ensures.fit c.in_ok-rules.ensures.few c.in_ok-titles.ensures.logics c.in_ok-titles.ensures.grammar_line c.in_ok-titles.ensures.full_binding c.in_ok-titles.ensures.suffix say
+    c.in_ok-rules.ensures.fit c.in_ok-rules.ensures.bounded c.in_ok-titles.ensures.logics c.in_ok-titles.ensures.grammar_line c.in_ok-titles.ensures.full_binding c.in_ok-titles.ensures.suffix say
     c.put_together.ensures.rules c.put_together.ensures.titles (c.put_together.ensures.name ∙ c.name_of-name.ensures) c.put_together.ensures.table

@@ -16,8 +16,8 @@ use Rattle.jm_machine.proofs.compile.compile_formula.Goals as goal
 pub distinct-requires : goal.distinct-requires
 distinct-requires c = rw c.as_slice-texts.ensures.value c.requires.handled.few
 
-pub resets_of-resets-requires-clause-few : goal.resets_of-resets-requires-clause-few
-resets_of-resets-requires-clause-few c = rw c.as_slice-texts.ensures.value c.requires.handled.few
+pub resets_of-resets-requires-clause-bounded : goal.resets_of-resets-requires-clause-bounded
+resets_of-resets-requires-clause-bounded c = rw c.as_slice-texts.ensures.value c.requires.handled.few
 
 pub compile-requires : goal.compile-requires
 compile-requires c = letters_read c.args.bytes.now (slice_range c.args.tokens.now c.args.property.now.first c.args.property.now.last) c.args.tree.now.table c.args.property.now.logic (is_some c.args.tree.now.suffix) c.args.formula c.requires.read
@@ -31,7 +31,7 @@ new-requires-clause-handling c =
     let bound = ap (λ (hs : List HandlerText). binding_fault bytes c.args.tree.now.full_binding c.args.tokens.now hs) is ∙ c.requires.handled.bound in
     let names = c.in_ok-handlers.ensures.names in
     record {
-      many = omega (arith, c.in_ok-categories.ensures.few);
+      many = omega (arith, c.in_ok-categories.ensures.bounded);
       few = rw (names, length-map, is) c.requires.handled.few;
       known = rw names (all_known bytes c.in_ok-categories.categories texts known);
       there = rw (names, length-map) c.resets_of-resets.ensures.below;

@@ -34,7 +34,7 @@ as_many : (bytes : List ℕ) (tokens : List Token) (table : EventDefinitions) (s
 as_many bytes tokens table suffix xs ys fs same read =
     count_formulas bytes tokens table suffix (map facts_of ys) fs read ∙ length-map ys facts_of ∙ ap (λ (zs : List PropertyTree). length zs) (sym same)
 
--- the property's formula, and what is left behind that
+-- the property's formula, and what is left after that
 module _ (fs : List Formula) (i : ℕ) (less : i < length fs) (left : List Formula) (rest : left ≡ drop i fs) where
   left_is : (f : Formula) → left ≡ get_or fs i f ∷ drop (suc i) fs
   left_is f = rest ∙ drop-cons fs i f less
@@ -51,7 +51,7 @@ some_of_drop [] i less = absurd (omega (arith, less))
 some_of_drop (f ∷ fs) zero less = omega arith
 some_of_drop (f ∷ fs) (suc i) less = some_of_drop fs i (omega (arith, less))
 
--- the parts with one more behind them
+-- the parts with one more after them
 split : (parts : List CompiledProperty) (part : CompiledProperty) (k : ℕ) (other : CompiledProperty) → slice_get (parts ++ part ∷ []) k ≡ Some other → (slice_get parts k ≡ Some other) ⊎ ((k ≡ length parts) × (part ≡ other))
 split [] part zero other at = inr (refl, same_Some part other at)
 split [] part (suc k) other at = absurd (none-some other at)

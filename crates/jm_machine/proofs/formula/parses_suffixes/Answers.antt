@@ -7,9 +7,9 @@ use Rattle.jm_machine.proofs.FormulaLemmas.{suffix_parser_engine}
 use Rattle.jm_machine.proofs.SuffixLemmas.{kept_within, kept_below, suffix_words}
 use Rattle.jm_machine.proofs.formula.parses_suffixes.Goals as goal
 
-pub suffix_grammar-requires-clause-few : goal.suffix_grammar-requires-clause-few
-suffix_grammar-requires-clause-few c =
-    kept_within c.args.grammar.now c.in_ok-reduce.field-0 c.in_ok-reduce.ensures.kept 31 c.in_ok-reduce.ensures.start c.requires.few
+pub suffix_grammar-requires-clause-bounded : goal.suffix_grammar-requires-clause-bounded
+suffix_grammar-requires-clause-bounded c =
+    kept_within c.args.grammar.now c.in_ok-reduce.field-0 c.in_ok-reduce.ensures.kept 31 c.in_ok-reduce.ensures.start c.requires.bounded
 
 pub suffix_grammar-requires-clause-below : goal.suffix_grammar-requires-clause-below
 suffix_grammar-requires-clause-below c =

@@ -11,7 +11,7 @@ loop-handler-preserved c = λ word place k.
     elim c.if-category_holds.branch [
       | then-category_holds w ↦ rw w.hits-is
           (hits_more c.args.goal.now.groups (λ group. GrammarHolds c.args.charts.now.grammar group word) c.loop-handler.hits c.loop-handler.handler c.group.result c.group.ensures
-          (omega (arith, c.loop-handler-test.true, c.handlers-handler-end.ensures.few)) ((c.category_holds.ensures word place).0 w.if-category_holds.true) (c.loop-handler.invariant word place) k)
+          (omega (arith, c.loop-handler-test.true, c.handlers-handler-end.ensures.bounded)) ((c.category_holds.ensures word place).0 w.if-category_holds.true) (c.loop-handler.invariant word place) k)
       | else-category_holds w ↦ rw w.hits-is
           (hits_same c.args.goal.now.groups (λ group. GrammarHolds c.args.charts.now.grammar group word) c.loop-handler.hits c.loop-handler.handler c.group.result c.group.ensures
           (λ holds. false≢true (sym w.if-category_holds.false ∙ (c.category_holds.ensures word place).1 holds)) (c.loop-handler.invariant word place) k)

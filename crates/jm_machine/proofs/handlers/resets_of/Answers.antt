@@ -13,7 +13,7 @@ use Rattle.jm_machine.proofs.handlers.resets_of.Goals.{then-has_reset, else-has_
 pub loop-place-preserved : goal.loop-place-preserved
 loop-place-preserved c = λ k.
     let place = c.loop-place.place in
-    let few : place < 16 = omega (arith, c.loop-place-test.true, c.requires.few) in
+    let few : place < 16 = omega (arith, c.loop-place-test.true, c.requires.bounded) in
     let at = slice_get-get_or c.args.handlers.now place _ c.loop-place-test.true in
     let says = c.has_reset.ensures ∙ ap (has_reset c.args.bytes.now) c.range_of.ensures in
     elim c.if-has_reset.branch [

@@ -10,8 +10,8 @@ add_numbered-requires-clause-distinct c =
     rw (c.new-names.ensures, c.handlers.ensures)
     (distinct_more all 0 c.args.first.now.definition.handlers (omega (arith, c.requires.properties, many_handlers parts)) c.requires.distinct refl)
 
-pub add_numbered-requires-in-loop-number-clause-few : goal.add_numbered-requires-in-loop-number-clause-few
-add_numbered-requires-in-loop-number-clause-few c =
+pub add_numbered-requires-in-loop-number-clause-bounded : goal.add_numbered-requires-in-loop-number-clause-bounded
+add_numbered-requires-in-loop-number-clause-bounded c =
     name_room c.args.first.now c.args.others.now c.loop-number.number c.index-others-number.result c.loop-number.names c.handlers-in-loop-number.result.now (omega (arith, c.loop-number-test.true)) c.index-others-number.is c.handlers-in-loop-number.ensures c.loop-number.invariant
     c.requires.handlers
 

@@ -12,7 +12,7 @@ loop-handler-preserved c = λ word place k.
     elim c.if-is_in_group.branch [
       | then-is_in_group w ↦ rw w.hits-is
           (hits_more c.args.goal.now.groups (λ group. EngineHolds (States c.args.table.now) group word) c.loop-handler.hits c.loop-handler.handler c.group.result c.group.ensures
-          (omega (arith, c.loop-handler-test.true, c.handlers-handler-end.ensures.few)) ((c.is_in_group.ensures word place).0 w.if-is_in_group.true) (c.loop-handler.invariant word place) k)
+          (omega (arith, c.loop-handler-test.true, c.handlers-handler-end.ensures.bounded)) ((c.is_in_group.ensures word place).0 w.if-is_in_group.true) (c.loop-handler.invariant word place) k)
       | else-is_in_group w ↦ rw w.hits-is
           (hits_same c.args.goal.now.groups (λ group. EngineHolds (States c.args.table.now) group word) c.loop-handler.hits c.loop-handler.handler c.group.result c.group.ensures
           (λ holds. false≢true (sym w.if-is_in_group.false ∙ (c.is_in_group.ensures word place).1 holds)) (c.loop-handler.invariant word place) k)

@@ -41,5 +41,5 @@ returns-clause-exact c = λ mask few. (
   ),
 )
 
-pub returns-clause-few : goal.returns-clause-few
-returns-clause-few c = λ mask h. omega (arith, ((c.loop-number.invariant.members mask).0 h).0, c.loop-number.auto)
+pub returns-clause-bounded : goal.returns-clause-bounded
+returns-clause-bounded c = λ mask h. omega (arith, ((c.loop-number.invariant.members mask).0 h).0, c.loop-number.auto)

@@ -4,7 +4,7 @@ use Rattle.jm_marks.proofs.dead.dead_mask.Goals as goal
 
 pub loop-p-init : goal.loop-p-init
 loop-p-init c = record {
-  low = c.room_for-p.ensures.few;
+  low = c.room_for-p.ensures.bounded;
   dead = sym (dead_mask-behind _ _ _ (subst (λ n. n < 2 ^ c.room_for-p.result) c.mask-mask.ensures.value c.room_for-p.ensures.room));
 }
 

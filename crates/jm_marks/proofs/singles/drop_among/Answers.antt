@@ -20,12 +20,12 @@ loop-left-init c = record {
 }
 
 pub overflow_mul-object : goal.overflow_mul-object
-overflow_mul-object c = omega (arith, c.requires.there, c.requires.gone.few)
+overflow_mul-object c = omega (arith, c.requires.in_range, c.requires.gone.few)
 
 pub overflow_add-object : goal.overflow_add-object
 overflow_add-object c =
     let (low, one) = first_left c.loop-left.left c.loop-left-test.true (omega (arith, c.loop-left.auto.left-fits)) in
-    omega (arith, c.requires.there, c.requires.gone.few, low)
+    omega (arith, c.requires.in_range, c.requires.gone.few, low)
 
 pub loop-left-smaller : goal.loop-left-smaller
 loop-left-smaller c =
@@ -58,8 +58,8 @@ loop-left-preserved c =
           }
     ]
 
-pub returns-clause-here : goal.returns-clause-here
-returns-clause-here c =
+pub returns-clause-dropped : goal.returns-clause-dropped
+returns-clause-dropped c =
     let none : c.loop-left.left ≡ 0 = omega arith in
     λ o near.
     let at : c.args.index * 64 + o % 64 ≡ o = omega (arith, near) in

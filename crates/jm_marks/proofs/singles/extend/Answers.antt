@@ -3,8 +3,8 @@ use Rattle.std.specs.Vec.{vec_len}
 use Rattle.jm_marks.proofs.PlaceLemmas.{resized_bytes}
 use Rattle.jm_marks.proofs.singles.extend.Goals as goal
 
-pub returns-then-is_ok-clause-same : goal.returns-then-is_ok-clause-same
-returns-then-is_ok-clause-same c =
+pub returns-then-is_ok-clause-unchanged : goal.returns-then-is_ok-clause-unchanged
+returns-then-is_ok-clause-unchanged c =
     let old = c.args.bytes.now.items in
     let size : vec_len c.args.bytes.now ≡ length old = omega arith in
     let room : length old ≤ c.args.count * 64 = omega (arith, c.requires.gone.room) in

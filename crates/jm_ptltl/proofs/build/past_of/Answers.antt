@@ -39,8 +39,8 @@ new-requires-clause-formula c =
     let said = said_formula bytes events f c.in_ok-said.said (sym (ap (λ (l : List (Node Token)). with_each (with_node bytes events) [] l) c.requires.1) ∙ c.in_ok-said.ensures) in
     well_formed c.into_vec.result.items said.0 (c.into_vec.ensures ∙ said.2)
 
-pub new-requires-clause-few : goal.new-requires-clause-few
-new-requires-clause-few c =
+pub new-requires-clause-bounded : goal.new-requires-clause-bounded
+new-requires-clause-bounded c =
     let bytes = c.args.bytes.now in
     let events = event_names c.args.table.now in
     let f = c.requires.0 in

@@ -23,5 +23,5 @@ loop-s-preserved g c =
     let at : slice_get seats s ≡ Some old = slice_get_read seats (length seats) s old refl (omega (arith, c.requires.count, ap (λ l. length l) c.loop-s.invariant.same)) c.index_mut.ensures.value in
     record {
       notes = notes_more c.args.seats.now.items s old c.note.result c.loop-s.notes.items c.push.new.self.items (ap (λ l. slice_get l s) (sym i.same) ∙ at) i.notes c.note.ensures.note c.in_ok-push.ensures.items;
-      same = set_back seats c.args.seats.now.items s old c.note.new.seat i.same at c.note.ensures.same;
+      same = set_back seats c.args.seats.now.items s old c.note.new.seat i.same at c.note.ensures.unchanged;
     }

@@ -30,8 +30,8 @@ returns-clause-value c =
     event_found c.args.catalog.now c.args.line c.args.spec.now c.args.event.now c.args.count c.in-Some.spec c.table-table.result.now found c.table-table.ensures
     c.in-Some-letter.letter.0 c.mask-mask.result known c.mask-mask.ensures.value (eq-eqb _ _ c.if-mask-count.false)
 
-pub returns-clause-there : goal.returns-clause-there
-returns-clause-there c =
+pub returns-clause-present : goal.returns-clause-present
+returns-clause-present c =
     let found = ap (number_of (spec_names c.args.catalog.now)) (sym c.text.ensures) ∙ sym c.in-Some.ensures.value in
     let known = ap (number_of (event_names c.table-table.result.now)) (sym c.text-2.ensures) ∙ sym c.in-Some-letter.ensures.value in
     has_event c.args.catalog.now c.args.line c.args.spec.now c.args.event.now c.args.count c.in-Some.spec c.table-table.result.now found c.table-table.ensures

@@ -17,7 +17,7 @@ loop-rest-init c =
       few = omega arith;
       known = c.new-known.ensures c.args.catalog.now;
       fitting = rw c.in_ok-script.ensures (All-nil (λ l. FitsTarget c.args.catalog.now (length c.args.objects.now) l.target));
-      read = rw c.in_ok-script.ensures (read_nothing c.args.catalog.now c.args.bytes.now c.args.count.now c.args.objects.now c.requires.few.1 c.requires.few.0 (IsExtension-none c.args.objects.now));
+      read = rw c.in_ok-script.ensures (read_nothing c.args.catalog.now c.args.bytes.now c.args.count.now c.args.objects.now c.requires.bounded.1 c.requires.bounded.0 (IsExtension-none c.args.objects.now));
     }
 
 pub returns-in-Err-clause-err : goal.returns-in-Err-clause-err
@@ -68,8 +68,8 @@ returns-in_err-push-clause-err c =
       counted = c.loop-rest.invariant.counted;
     })
 
-pub push-requires-clause-few : goal.push-requires-clause-few
-push-requires-clause-few c =
+pub push-requires-clause-bounded : goal.push-requires-clause-bounded
+push-requires-clause-bounded c =
     let here = ap lines_left c.in-Some.is ∙ c.behind_line-rest.ensures.lines in
     let words = ap texts c.deref.ensures.value ∙ c.in_ok-end.ensures.words in
     let steps : c.loop-rest.count + c.len.result ≡ c.args.count.now + length c.loop-rest.script = omega arith in

@@ -18,8 +18,8 @@ returns-in-Ok c = record {
       (c.behind-event.ensures ∙ ap (λ n. drop (n + 1) c.args.word.now) c.position_of-dot.ensures.value)
       (sym c.is_event_line.ensures ∙ c.if-not-is_event_line.false)
       c.in-Ok.ensures.value
-      c.in-Ok.ensures.there
-      c.in-Ok.ensures.few
+      c.in-Ok.ensures.present
+      c.in-Ok.ensures.bounded
       c.in-Ok.ensures.counted;
   named = both_right _ _ (sym c.is_event_line.ensures ∙ c.if-not-is_event_line.false);
   room = has_room _ _ c.is_full.ensures c.if-is_full.false;

@@ -10,8 +10,8 @@ returns-in_err-known_modifiers-clause-ok c =
     let p = err_from_is_err_and c.from_residual.result c.from_residual.ensures.1 in
     rw p.1 tt
 
-pub returns-in_err-known_modifiers-clause-few : goal.returns-in_err-known_modifiers-clause-few
-returns-in_err-known_modifiers-clause-few c =
+pub returns-in_err-known_modifiers-clause-bounded : goal.returns-in_err-known_modifiers-clause-bounded
+returns-in_err-known_modifiers-clause-bounded c =
     let p = err_from_is_err_and c.from_residual.result c.from_residual.ensures.1 in
     rw p.1 tt
 
@@ -27,8 +27,8 @@ returns-in_err-known_advice-clause-ok c =
     let p = err_from_is_err_and c.from_residual-in_err-known_advice.result c.from_residual-in_err-known_advice.ensures.1 in
     rw p.1 tt
 
-pub returns-in_err-known_advice-clause-few : goal.returns-in_err-known_advice-clause-few
-returns-in_err-known_advice-clause-few c =
+pub returns-in_err-known_advice-clause-bounded : goal.returns-in_err-known_advice-clause-bounded
+returns-in_err-known_advice-clause-bounded c =
     let p = err_from_is_err_and c.from_residual-in_err-known_advice.result c.from_residual-in_err-known_advice.ensures.1 in
     rw p.1 tt
 
@@ -45,8 +45,8 @@ returns-in_err-few_properties-clause-ok c =
     let p = err_from_is_err_and c.from_residual-in_err-few_properties.result c.from_residual-in_err-few_properties.ensures.1 in
     rw p.1 tt
 
-pub returns-in_err-few_properties-clause-few : goal.returns-in_err-few_properties-clause-few
-returns-in_err-few_properties-clause-few c =
+pub returns-in_err-few_properties-clause-bounded : goal.returns-in_err-few_properties-clause-bounded
+returns-in_err-few_properties-clause-bounded c =
     let p = err_from_is_err_and c.from_residual-in_err-few_properties.result c.from_residual-in_err-few_properties.ensures.1 in
     rw p.1 tt
 
@@ -64,8 +64,8 @@ returns-in_err-properties-clause-ok c =
     let p = err_from_is_err_and c.from_residual-in_err-properties.result c.from_residual-in_err-properties.ensures.1 in
     rw p.1 tt
 
-pub returns-in_err-properties-clause-few : goal.returns-in_err-properties-clause-few
-returns-in_err-properties-clause-few c =
+pub returns-in_err-properties-clause-bounded : goal.returns-in_err-properties-clause-bounded
+returns-in_err-properties-clause-bounded c =
     let p = err_from_is_err_and c.from_residual-in_err-properties.result c.from_residual-in_err-properties.ensures.1 in
     rw p.1 tt
 
@@ -84,8 +84,8 @@ returns-in_err-table-clause-ok c =
     let p = err_from_is_err_and c.from_residual-in_err-table.result c.from_residual-in_err-table.ensures.1 in
     rw p.1 tt
 
-pub returns-in_err-table-clause-few : goal.returns-in_err-table-clause-few
-returns-in_err-table-clause-few c =
+pub returns-in_err-table-clause-bounded : goal.returns-in_err-table-clause-bounded
+returns-in_err-table-clause-bounded c =
     let p = err_from_is_err_and c.from_residual-in_err-table.result c.from_residual-in_err-table.ensures.1 in
     rw p.1 tt
 

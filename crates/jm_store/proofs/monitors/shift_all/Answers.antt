@@ -13,17 +13,17 @@ loop-shift-init g c = record {
   alike = alike_same c.args.slots.now;
 }
 
-pub renumber-requires-clause-there : goal.renumber-requires-clause-there
-renumber-requires-clause-there g c =
+pub renumber-requires-clause-present : goal.renumber-requires-clause-present
+renumber-requires-clause-present g c =
     let none : Shift = record { slot = 0; number = 0 } in
     let x = get_or c.args.shifts.now c.loop-shift.shift-index none in
-    let ((s, at), low) = c.requires.there x (Contains-get_or c.args.shifts.now c.loop-shift.shift-index none c.loop-shift-test.true) in
+    let ((s, at), low) = c.requires.present x (Contains-get_or c.args.shifts.now c.loop-shift.shift-index none c.loop-shift-test.true) in
     has_still c.args.slots.now c.loop-shift.slots c.loop-shift.invariant.alike x.slot s at
 
 pub renumber-requires-clause-low : goal.renumber-requires-clause-low
 renumber-requires-clause-low g c =
     let none : Shift = record { slot = 0; number = 0 } in
-    (c.requires.there (get_or c.args.shifts.now c.loop-shift.shift-index none) (Contains-get_or c.args.shifts.now c.loop-shift.shift-index none c.loop-shift-test.true)).1
+    (c.requires.present (get_or c.args.shifts.now c.loop-shift.shift-index none) (Contains-get_or c.args.shifts.now c.loop-shift.shift-index none c.loop-shift-test.true)).1
 
 pub loop-shift-preserved : goal.loop-shift-preserved
 loop-shift-preserved g c =

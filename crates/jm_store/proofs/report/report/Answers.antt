@@ -11,4 +11,4 @@ returns g c = λ distinct.
 pub returns-then-len-gt1 : goal.returns-then-len-gt1
 returns-then-len-gt1 g c = λ distinct.
     report_of_sorted (g.M.Monitor.meaning (g.M.Monitor.definition c.args.rules.now)) (g.M.Monitor.StandsFor c.args.rules.now) (reached_by c.args.moves.now) c.in_ok-firings.firings c.in_ok-sorted.sorted
-    c.in_ok-sorted.ensures.same c.in_ok-sorted.ensures.ordered (c.in_ok-firings.ensures distinct)
+    c.in_ok-sorted.ensures.permutation c.in_ok-sorted.ensures.ordered (c.in_ok-firings.ensures distinct)

@@ -28,7 +28,7 @@ returns c =
     let n = c.room_of-handler-end.result in
     let last : c.loop-handler.handler ≡ n = omega arith in
     c.loop-handler.invariant ∙ ap (λ (k : ℕ). c.args.firings.now ++ firings_below c.args.instance.now c.args.hits k) last
-    ∙ ap (λ (l : List Firing). c.args.firings.now ++ l) (sym (hits_all c.args.instance.now c.args.hits n c.room_of-handler-end.ensures.room c.room_of-handler-end.ensures.few))
+    ∙ ap (λ (l : List Firing). c.args.firings.now ++ l) (sym (hits_all c.args.instance.now c.args.hits n c.room_of-handler-end.ensures.room c.room_of-handler-end.ensures.bounded))
 
 pub returns-then-hits-eq0 : goal.returns-then-hits-eq0
 returns-then-hits-eq0 c = rw (c.if-hits-eq0.true, no_hits c.args.instance.now 16) (sym (append-nil c.args.firings.now))

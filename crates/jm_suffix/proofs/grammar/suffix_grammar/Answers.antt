@@ -10,7 +10,7 @@ use Rattle.jm_suffix.proofs.grammar.suffix_grammar.Goals as goal
 pub of-requires-clause-numbers : goal.of-requires-clause-numbers
 of-requires-clause-numbers c =
     let made = c.in_ok-productions.ensures in
-    subst (λ (l : List Production). All HasSmallNumbers l) (sym made.2) (small_numbers c.args.grammar made.0 c.args.letters made.1 c.requires.few c.requires.below c.requires.most)
+    subst (λ (l : List Production). All HasSmallNumbers l) (sym made.2) (small_numbers c.args.grammar made.0 c.args.letters made.1 c.requires.bounded c.requires.below c.requires.most)
 
 pub returns-clause-words : goal.returns-clause-words
 returns-clause-words c =
@@ -20,7 +20,7 @@ returns-clause-words c =
     IfOk-weaker c.of.result _ _
     (λ g is. subst (λ (d : GrammarDefinition). (word : List ℕ) → IsWord d word ↔ (All (λ letter. letter < letters) word × EndsIn (IsWord old) word))
     (ap (λ (l : List Production). record { productions = l; start = 62 }) (sym made.2) ∙ sym is)
-    (all_words old made.0 letters made.1 c.requires.few c.requires.below c.requires.most))
+    (all_words old made.0 letters made.1 c.requires.bounded c.requires.below c.requires.most))
     c.of.ensures.ok
 
 pub returns-clause-below : goal.returns-clause-below
@@ -30,5 +30,5 @@ returns-clause-below c =
     IfOk-weaker c.of.result _ _
     (λ g is. subst (λ (d : GrammarDefinition). AreBelow d.productions letters)
     (ap (λ (l : List Production). record { productions = l; start = 62 }) (sym made.2) ∙ sym is)
-    (still_below c.args.grammar made.0 letters made.1 c.requires.few c.requires.below c.requires.most))
+    (still_below c.args.grammar made.0 letters made.1 c.requires.bounded c.requires.below c.requires.most))
     c.of.ensures.ok

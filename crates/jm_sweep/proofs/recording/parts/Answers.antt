@@ -30,8 +30,8 @@ returns-then-end-bytes-2-clause-value c =
     let plain : is_parting (first_line (drop at bytes)) ≡ false = ap (λ t. is_parting (first_line t)) (sym whole) ∙ sym c.in_ok-line.ensures.parting ∙ c.if-line.false in
     rw (c.in_ok-push-3.ensures.items, c.span-then-end-bytes-2.ensures) (last_part bytes c.loop-words.spans.items c.loop-words.begin at c.loop-words.invariant c.in_ok-line.line.len found c.if-end-bytes-2.true plain)
 
-pub returns-then-end-bytes-clause-few : goal.returns-then-end-bytes-clause-few
-returns-then-end-bytes-clause-few c =
+pub returns-then-end-bytes-clause-bounded : goal.returns-then-end-bytes-clause-bounded
+returns-then-end-bytes-clause-bounded c =
     let bytes = c.args.bytes.now in
     let at = c.loop-words.at in
     let whole = take_all (length bytes - at) (drop at bytes) (omega (arith, length-drop at bytes)) in
@@ -40,8 +40,8 @@ returns-then-end-bytes-clause-few c =
     rw (c.in_ok-push-2.ensures.items, c.in_ok-push.ensures.items)
     (parted_few bytes c.loop-words.spans.items c.loop-words.begin at c.loop-words.invariant c.in_ok-line.line.len found parting c.span.result c.span-then-end-bytes.result c.if-end-bytes.true)
 
-pub returns-then-end-bytes-2-clause-few : goal.returns-then-end-bytes-2-clause-few
-returns-then-end-bytes-2-clause-few c =
+pub returns-then-end-bytes-2-clause-bounded : goal.returns-then-end-bytes-2-clause-bounded
+returns-then-end-bytes-2-clause-bounded c =
     let bytes = c.args.bytes.now in
     let at = c.loop-words.at in
     let whole = take_all (length bytes - at) (drop at bytes) (omega (arith, length-drop at bytes)) in

@@ -9,10 +9,10 @@ loop-left-init c = record {
   cut = rw (c.in_ok-with_capacity.ensures.items, c.new.ensures.items) (cut_nothing c.args.names.now c.args.bytes.now);
 }
 
-pub cut_line-requires-clause-few : goal.cut_line-requires-clause-few
-cut_line-requires-clause-few c =
+pub cut_line-requires-clause-bounded : goal.cut_line-requires-clause-bounded
+cut_line-requires-clause-bounded c =
     let here = line_here _ _ _ _ c.in-Some.is c.in_ok-end.ensures.line c.behind_line-left.ensures.lines in
-    few_names _ _ _ _ _ _ _ c.loop-left.invariant.cut _ _ here 4294967296 c.requires.few
+    few_names _ _ _ _ _ _ _ c.loop-left.invariant.cut _ _ here 4294967296 c.requires.bounded
 
 pub loop-left-preserved-in_ok-push : goal.loop-left-preserved-in_ok-push
 loop-left-preserved-in_ok-push c =

@@ -3,10 +3,10 @@ use Rattle.std.proofs.lemmas.List.{append-nil}
 use Rattle.jm_sync.proofs.CutLemmas.{request_is, pushed}
 use Rattle.jm_sync.proofs.cutting.cut_line.Goals as goal
 
-pub mention-requires-clause-few : goal.mention-requires-clause-few
-mention-requires-clause-few c =
+pub mention-requires-clause-bounded : goal.mention-requires-clause-bounded
+mention-requires-clause-bounded c =
     let asked = request_is c.args.line.now _ _ c.requires.words c.in-Some.ensures.value in
-    rw asked at c.requires.few
+    rw asked at c.requires.bounded
 
 pub returns-in_ok-push-in-Some-clause-rest : goal.returns-in_ok-push-in-Some-clause-rest
 returns-in_ok-push-in-Some-clause-rest c =

@@ -11,7 +11,7 @@ text-name-requires c = object_utf8 _ c.requires.object
 pub add-requires : goal.add-requires
 add-requires c =
     let none = ap (number_of c.args.names.now) (sym c.text-name.ensures) ∙ sym c.in-None.ensures.value in
-    omega (arith, room_for c.args.names.now c.args.name.now 4294967296 none c.requires.few)
+    omega (arith, room_for c.args.names.now c.args.name.now 4294967296 none c.requires.bounded)
 
 pub returns-in-Some-clause-ok : goal.returns-in-Some-clause-ok
 returns-in-Some-clause-ok c =

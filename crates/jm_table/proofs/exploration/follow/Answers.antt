@@ -46,8 +46,8 @@ returns-in_err-node-clause-index g c =
     let p = err_from_is_err_and c.from_residual.result c.from_residual.ensures.1 in
     rw p.1 tt
 
-pub number-requires-clause-few : goal.number-requires-clause-few
-number-requires-clause-few g c = c.requires.few
+pub number-requires-clause-bounded : goal.number-requires-clause-bounded
+number-requires-clause-bounded g c = c.requires.bounded
 
 pub number-requires-clause-index : goal.number-requires-clause-index
 number-requires-clause-index g c = c.requires.index
@@ -113,7 +113,7 @@ returns-clause-target g c = λ d at.
       data_of c.in_ok-node.node,
       c.in_ok-target.target,
       ap (λ x. (g.G.Graph.meaning c.args.graph.now).step x c.args.letter.0) (sym same) ∙ c.in_ok-node.ensures,
-      c.in_ok-target.ensures.here,
+      c.in_ok-target.ensures.at_key,
       c.in_ok-push.ensures.items ∙ ap (λ v. v.items ++ c.in_ok-target.target ∷ []) c.number.ensures.next,
     )
 

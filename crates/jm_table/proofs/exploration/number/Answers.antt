@@ -24,8 +24,8 @@ no_fault : (r : Result ℕ SpecError) (P : SpecFault → Type 0) → IfErr r (λ
 no_fault (Ok n) P h = tt
 no_fault (Err e) P h = rw h tt
 
-pub find-requires-clause-few : goal.find-requires-clause-few
-find-requires-clause-few g c = c.requires.few
+pub find-requires-clause-bounded : goal.find-requires-clause-bounded
+find-requires-clause-bounded g c = c.requires.bounded
 
 pub find-requires-clause-index : goal.find-requires-clause-index
 find-requires-clause-index g c = c.requires.index
@@ -38,8 +38,8 @@ returns-in-Some-clause-finds g c =
 pub returns-in-Some-clause-fault : goal.returns-in-Some-clause-fault
 returns-in-Some-clause-fault g c = tt
 
-pub returns-in-Some-clause-here : goal.returns-in-Some-clause-here
-returns-in-Some-clause-here g c = c.in-Some.ensures
+pub returns-in-Some-clause-at_key : goal.returns-in-Some-clause-at_key
+returns-in-Some-clause-at_key g c = c.in-Some.ensures
 
 pub returns-in-Some-clause-index : goal.returns-in-Some-clause-index
 returns-in-Some-clause-index g c = c.requires.index
@@ -57,8 +57,8 @@ returns-then-len-eq-MAX_STATES-clause-fault g c =
     let many : length (map data_of nodes.items) ≡ 1024 = omega (arith, length-map nodes.items data_of, nodes.ok.0, c.len.ensures, c.if-len-eq-MAX_STATES.true) in
     inr (c.in_default.ensures, rw many refl)
 
-pub returns-then-len-eq-MAX_STATES-clause-here : goal.returns-then-len-eq-MAX_STATES-clause-here
-returns-then-len-eq-MAX_STATES-clause-here g c = tt
+pub returns-then-len-eq-MAX_STATES-clause-at_key : goal.returns-then-len-eq-MAX_STATES-clause-at_key
+returns-then-len-eq-MAX_STATES-clause-at_key g c = tt
 
 pub returns-then-len-eq-MAX_STATES-clause-index : goal.returns-then-len-eq-MAX_STATES-clause-index
 returns-then-len-eq-MAX_STATES-clause-index g c = tt
@@ -79,8 +79,8 @@ returns-clause-finds g c =
 pub returns-clause-fault : goal.returns-clause-fault
 returns-clause-fault g c = no_fault c.append.result _ c.append.ensures.fault
 
-pub returns-clause-here : goal.returns-clause-here
-returns-clause-here g c =
+pub returns-clause-at_key : goal.returns-clause-at_key
+returns-clause-at_key g c =
     let nodes = c.args.work.now.nodes in
     let data_of = g.G.Graph.data_of c.args.graph.now in
     stands_last (map data_of nodes.items) (map data_of c.append.new.work.nodes.items) (data_of c.args.node) c.append.result _ c.append.ensures.found c.append.ensures.number (omega (arith, length-map nodes.items data_of, nodes.ok.0))

@@ -33,7 +33,7 @@ returns-in_err-inputs-clause-carried_out g c =
     let specs = map string_bytes c.args.specs.now in
     let scripts = map string_bytes c.args.scripts.now in
     rw (p.1, p.2) (audit_stops contents (string_bytes c.args.history.now) c.in_ok-bytes.bytes.items specs scripts _ (rw c.as_str.ensures.value at c.in_ok-bytes.ensures.held) c.in_ok-bytes.ensures.within
-    (stops_before contents later c.load.ensures.same false 1 198000 (named specs) (named scripts) _ c.in_err-inputs.ensures.err))
+    (stops_before contents later c.load.ensures.unchanged false 1 198000 (named specs) (named scripts) _ c.in_err-inputs.ensures.err))
 
 pub returns-in_err-inputs-clause-read_failed : goal.returns-in_err-inputs-clause-read_failed
 returns-in_err-inputs-clause-read_failed g c = λ file is.
@@ -69,4 +69,4 @@ returns-clause-carried_out g c =
     let specs = map string_bytes c.args.specs.now in
     let scripts = map string_bytes c.args.scripts.now in
     audit_made contents (string_bytes c.args.history.now) c.in_ok-bytes.bytes.items specs scripts c.in_ok-inputs.inputs c.in_ok-text.text.items (rw c.as_str.ensures.value at c.in_ok-bytes.ensures.held) c.in_ok-bytes.ensures.within
-    (inputs_before contents later c.load.ensures.same false 198000 (named specs) (named scripts) c.in_ok-inputs.inputs c.in_ok-inputs.ensures.read) (rw c.as_slice.ensures.value at c.in_ok-text.ensures)
+    (inputs_before contents later c.load.ensures.unchanged false 198000 (named specs) (named scripts) c.in_ok-inputs.inputs c.in_ok-inputs.ensures.read) (rw c.as_slice.ensures.value at c.in_ok-text.ensures)

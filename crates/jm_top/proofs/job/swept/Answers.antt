@@ -20,7 +20,7 @@ returns-in_err-bytes-clause-carried_out g c =
     let contents = g.F.Folder.holds c.args.files.now in
     let later = g.F.Folder.holds c.read_specifications.new.files in
     rw (p.1, p.2) (sweep_unloaded contents (string_bytes c.args.spec.now) (string_bytes c.args.recording.now) c.in_ok-library.library _ (rw c.from_ref.ensures.value at c.in_ok-library.ensures.read)
-    (not_loaded_before contents later c.read_specifications.ensures.same _ 1 _ _ _ (rw (c.too_long.ensures, c.as_str.ensures.value) at c.in_err-bytes.ensures.err)))
+    (not_loaded_before contents later c.read_specifications.ensures.unchanged _ 1 _ _ _ (rw (c.too_long.ensures, c.as_str.ensures.value) at c.in_err-bytes.ensures.err)))
 
 pub returns-in_err-bytes-clause-read_failed : goal.returns-in_err-bytes-clause-read_failed
 returns-in_err-bytes-clause-read_failed g c = λ file is.
@@ -38,4 +38,4 @@ returns-clause-carried_out g c =
     let contents = g.F.Folder.holds c.args.files.now in
     let later = g.F.Folder.holds c.read_specifications.new.files in
     sweep_carried_out contents (string_bytes c.args.spec.now) (string_bytes c.args.recording.now) c.in_ok-bytes.bytes.items c.in_ok-library.library c.sweep.result (rw c.from_ref.ensures.value at c.in_ok-library.ensures.read)
-    (given_before contents later c.read_specifications.ensures.same _ _ (rw c.as_str.ensures.value at c.in_ok-bytes.ensures.held)) (rw c.as_slice.ensures.value at c.sweep.ensures.ok) (rw c.as_slice.ensures.value at c.sweep.ensures.err)
+    (given_before contents later c.read_specifications.ensures.unchanged _ _ (rw c.as_str.ensures.value at c.in_ok-bytes.ensures.held)) (rw c.as_slice.ensures.value at c.sweep.ensures.ok) (rw c.as_slice.ensures.value at c.sweep.ensures.err)

@@ -38,5 +38,5 @@ returns-clause-ok c =
       is_text = c.in_ok-text.ensures;
     }
 
-pub returns-clause-few : goal.returns-clause-few
-returns-clause-few c = omega (arith, c.in_ok-script.ensures.ok.counted, c.in_ok-script.ensures.bounded.0)
+pub returns-clause-bounded : goal.returns-clause-bounded
+returns-clause-bounded c = omega (arith, c.in_ok-script.ensures.ok.counted, c.in_ok-script.ensures.bounded.0)

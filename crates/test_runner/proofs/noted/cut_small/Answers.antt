@@ -7,8 +7,8 @@ use Rattle.jm_sync.specs.Cuts.{names_after, IsExtension}
 use Rattle.jm_sync.proofs.CutLemmas.{length-names_after}
 use Rattle.test_runner.proofs.noted.cut_small.Goals as goal
 
-pub cut-requires-clause-few : goal.cut-requires-clause-few
-cut-requires-clause-few c = omega (arith, length-names_after c.args.names.now c.args.bytes.now)
+pub cut-requires-clause-bounded : goal.cut-requires-clause-bounded
+cut-requires-clause-bounded c = omega (arith, length-names_after c.args.names.now c.args.bytes.now)
 
 -- names that are few have small numbers
 few_named : {E : Type 0} (r : Result Cut E) (names after : List (List ℕ)) (Q : E → Type 0) → MatchResult r (λ _. names ≡ after) Q → IfOk r (λ cut. All (λ (l : SyncLine). l.name < length names) cut.lines.items) → length after < 2 ^ 32 - 1 → IfOk r (λ cut. All (λ (l : SyncLine). l.name < 2 ^ 32 - 1) cut.lines.items)

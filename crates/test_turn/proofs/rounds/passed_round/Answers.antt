@@ -9,4 +9,4 @@ pub returns-clause-each : goal.returns-clause-each
 returns-clause-each c =
     let i = c.loop-seat.invariant in
     let last = (All-pop (λ s. IsSeatOf c.args.lock.now s) c.args.seats.items c.pop.new.self.items (Some c.in_ok-last.last) c.in_ok-last.ensures.items c.requires).1 in
-    all_pushed (λ r. IsRunnerOf c.args.lock.now r) c.loop-seat.runners.items _ _ _ c.push-2.ensures.items i.each (ap (λ s. s.lock) c.note-note.ensures.same ∙ last, i.note)
+    all_pushed (λ r. IsRunnerOf c.args.lock.now r) c.loop-seat.runners.items _ _ _ c.push-2.ensures.items i.each (ap (λ s. s.lock) c.note-note.ensures.unchanged ∙ last, i.note)

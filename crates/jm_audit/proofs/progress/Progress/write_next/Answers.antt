@@ -12,7 +12,7 @@ next_entry-requires g c =
     let m = g.M.Monitor.meaning (g.M.Monitor.definition c.args.sheet.now.rules.now) in
     let l = lexicon c.args.objects.now c.args.sheet.now in
     let fit : IsFit m l c.remove-next.result.step =
-    at_place (λ (p : Pending). IsFit m l p.step) c.args.self.now.pending.items c.choose-place.result c.remove-next.result (omega (arith, c.choose-place.ensures.there)) c.remove-next.ensures.value c.requires.ready.fit in
+    at_place (λ (p : Pending). IsFit m l p.step) c.args.self.now.pending.items c.choose-place.result c.remove-next.result (omega (arith, c.choose-place.ensures.in_range)) c.remove-next.ensures.value c.requires.ready.fit in
     record {
       own = fit.0;
       room = has_room l (length c.args.self.now.account.dead.items) c.remove-next.result.step c.requires.ready.room fit.1;
@@ -25,7 +25,7 @@ render_entry-requires g c =
     let l = lexicon c.args.objects.now c.args.sheet.now in
     let rest = option_map (λ r. r.now) c.args.rest in
     let choice : IsChoice c.args.self.now.pending.items rest c.choose-place.result = subst (λ (ps : List Pending). IsChoice ps rest c.choose-place.result) c.as_slice.ensures.value c.choose-place.ensures.choice in
-    can_print m l c.args.self.now c.requires.ready rest c.choose-place.result choice c.remove-next.result c.remove-next.ensures.value c.in_ok-entry.entry c.in_ok-entry.ensures.same c.next_entry.new.account
+    can_print m l c.args.self.now c.requires.ready rest c.choose-place.result choice c.remove-next.result c.remove-next.ensures.value c.in_ok-entry.entry c.in_ok-entry.ensures.source c.next_entry.new.account
     (c.in_ok-entry.ensures.replied c.args.self.now.history.items c.requires.ready.account)
 
 pub returns-clause-ready : goal.returns-clause-ready
@@ -34,7 +34,7 @@ returns-clause-ready g c =
     let l = lexicon c.args.objects.now c.args.sheet.now in
     let rest = option_map (λ r. r.now) c.args.rest in
     let choice : IsChoice c.args.self.now.pending.items rest c.choose-place.result = subst (λ (ps : List Pending). IsChoice ps rest c.choose-place.result) c.as_slice.ensures.value c.choose-place.ensures.choice in
-    ready_next m l c.args.self.now c.requires.ready rest c.choose-place.result choice c.remove-next.result c.remove-next.ensures.value c.in_ok-entry.entry c.in_ok-entry.ensures.same c.next_entry.new.account
+    ready_next m l c.args.self.now c.requires.ready rest c.choose-place.result choice c.remove-next.result c.remove-next.ensures.value c.in_ok-entry.entry c.in_ok-entry.ensures.source c.next_entry.new.account
     (c.in_ok-entry.ensures.replied c.args.self.now.history.items c.requires.ready.account) _ c.in_ok-push.ensures.items c.remove-next.ensures.by_index.2 refl c.in_ok-entry.ensures.room
 
 pub returns-clause-written : goal.returns-clause-written
@@ -50,6 +50,6 @@ returns-clause-written g c =
       history = c.in_ok-push.ensures.items;
       written = c.in_ok-left.ensures.written ∙ ap (λ (t : List ℕ). c.args.written.now.items ++ t) block;
       behind = subst (λ (t : List ℕ). IsLeftBehind t rest (option_map (λ r. r.now) c.in_ok-left.left)) block c.in_ok-left.ensures.left;
-      picked = picked_next m l c.args.self.now c.requires.ready rest c.choose-place.result choice c.remove-next.result c.remove-next.ensures.value c.in_ok-entry.entry c.in_ok-entry.ensures.same c.next_entry.new.account replied;
-      under = under_next m l c.args.self.now c.requires.ready rest c.choose-place.result choice c.remove-next.result c.remove-next.ensures.value c.in_ok-entry.entry c.in_ok-entry.ensures.same c.next_entry.new.account replied _ _ c.in_ok-push.ensures.items c.remove-next.ensures.by_index.2;
+      picked = picked_next m l c.args.self.now c.requires.ready rest c.choose-place.result choice c.remove-next.result c.remove-next.ensures.value c.in_ok-entry.entry c.in_ok-entry.ensures.source c.next_entry.new.account replied;
+      under = under_next m l c.args.self.now c.requires.ready rest c.choose-place.result choice c.remove-next.result c.remove-next.ensures.value c.in_ok-entry.entry c.in_ok-entry.ensures.source c.next_entry.new.account replied _ _ c.in_ok-push.ensures.items c.remove-next.ensures.by_index.2;
     }

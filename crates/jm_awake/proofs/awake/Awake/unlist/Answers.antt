@@ -16,8 +16,8 @@ returns-then-slot-len-clause-on c = λ k e other was. elim (cases_eq k c.args.sl
   | inr differs ↦ subst (λ (d : Card). IsOn d e) (sym (c.unlist_card.ensures.others k differs)) was
 ]
 
-pub returns-then-slot-len-clause-there : goal.returns-then-slot-len-clause-there
-returns-then-slot-len-clause-there c = there_same c.args.self.now.cards c.unlist_card.new.self.cards c.unlist_card.ensures.size (λ k. elim (cases_eq k c.args.slot) [
+pub returns-then-slot-len-clause-unchanged : goal.returns-then-slot-len-clause-unchanged
+returns-then-slot-len-clause-unchanged c = there_same c.args.self.now.cards c.unlist_card.new.self.cards c.unlist_card.ensures.size (λ k. elim (cases_eq k c.args.slot) [
   | inl same ↦ subst (λ (n : ℕ). (card_at c.unlist_card.new.self n).age ≡ (card_at c.args.self.now n).age) (sym same) c.unlist_card.ensures.card.age
   | inr differs ↦ ap (λ (d : Card). d.age) (c.unlist_card.ensures.others k differs)
 ])

@@ -27,5 +27,5 @@ returns-clause-exact c = λ mask few. (
   λ h. (c.loop-number.invariant.members mask).1 (omega (arith, few, c.loop-number-test.false), h),
 )
 
-pub returns-clause-few : goal.returns-clause-few
-returns-clause-few c = λ mask h. omega (arith, ((c.loop-number.invariant.members mask).0 h).0, c.loop-number.auto)
+pub returns-clause-bounded : goal.returns-clause-bounded
+returns-clause-bounded c = λ mask h. omega (arith, ((c.loop-number.invariant.members mask).0 h).0, c.loop-number.auto)

@@ -16,4 +16,4 @@ returns-in-Some g c =
     }
 
 pub fire_listed-requires-clause-list : goal.fire_listed-requires-clause-list
-fire_listed-requires-clause-list g c = rw (c.in_default.ensures.same.0, c.in_default.ensures.same.1) c.requires.list
+fire_listed-requires-clause-list g c = rw (c.in_default.ensures.unchanged.0, c.in_default.ensures.unchanged.1) c.requires.list

@@ -32,7 +32,7 @@ invariant_of-self g c =
     (core_after_death m Stands c.self.inside.history dead c.self.inside.live.store c.args.node o c.self.invariant.0 is within alive)) in
     let mourned = c.mourn.ensures.listed c.self.inside.rules dead c.self.invariant.1 in
     let listed : AreListed m Stands c.kill.new.self c.self.inside.live.store.monitors c.mourn.new.awake = subst (λ (d : List Bool). AreListed m Stands d c.self.inside.live.store.monitors c.mourn.new.awake) (sym c.kill.ensures.dead) mourned in
-    rw c.mourn.ensures.same (core, listed)
+    rw c.mourn.ensures.unchanged (core, listed)
 
 pub mourn-requires : goal.mourn-requires
 mourn-requires g c =

@@ -34,8 +34,8 @@ perform-outcome-requires-clause-event g c =
     (subst (λ (core : Core g.row.M-Definition.Denot). IsEventOf (g.M.Monitor.meaning core.definition) c.args.self.now.objects c.args.node.step) (sym c.self.view_is) c.requires) in
     λ none. live_event m c.self.inside.objects c.in-Event.letter c.in-Event.binding fits.0 none
 
-pub perform-outcome-requires-clause-there : goal.perform-outcome-requires-clause-there
-perform-outcome-requires-clause-there g c =
+pub perform-outcome-requires-clause-in_range : goal.perform-outcome-requires-clause-in_range
+perform-outcome-requires-clause-in_range g c =
     let m = g.M.Monitor.meaning (g.M.Monitor.definition c.self.inside.rules) in
     let is : c.args.node.step ≡ Event c.in-Event.letter c.in-Event.binding = sym c.step.ensures ∙ c.in-Event.is in
     let fits : IsEventOf m (length c.self.inside.objects) (Event c.in-Event.letter c.in-Event.binding) =

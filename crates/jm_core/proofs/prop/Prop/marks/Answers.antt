@@ -13,7 +13,7 @@ returns-clause-value g c =
     let kept = c.self.inside.live.store.marks in
     subst (λ (l : List Binding). IfOk c.marks.result (λ list. AreInOrder l list.items)) (ap (λ core. core.marks) c.self.view_is)
     (both_ok c.marks.result (λ list. IsPermutation kept list.items) (λ list. IsSorted binding_cmp list.items) (λ list. AreInOrder kept list.items)
-    (λ list same ordered. record { same = same; ordered = ordered }) c.marks.ensures.same c.marks.ensures.ordered)
+    (λ list same ordered. record { same = same; ordered = ordered }) c.marks.ensures.permutation c.marks.ensures.ordered)
 
 pub returns-clause-fits : goal.returns-clause-fits
 returns-clause-fits g c =

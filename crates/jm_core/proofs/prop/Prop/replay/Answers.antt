@@ -26,7 +26,7 @@ loop-line-preserved g c =
     let item = c.loop-line-item.result in
     let u = c.in_ok-node.node in
     let next = c.step.new.self in
-    let added = rw c.node.ensures.same at c.step.ensures.added in
+    let added = rw c.node.ensures.unchanged at c.step.ensures.added in
     let grown = replayed_more c.args.caller (take i steps) c.args.self.now c.loop-line.self next u c.step.result (ap (λ n. n.caller) c.in_ok-node.ensures.node) c.in_default.not-NoMemory c.loop-line.invariant.done added in
     let at_item : Replayed c.args.caller (take i steps ++ item ∷ []) c.args.self.now next =
     subst (λ (s : ℕ × Step). Replayed c.args.caller (take i steps ++ s ∷ []) c.args.self.now next) (ap (λ n. (n.line, n.step)) c.in_ok-node.ensures.node) grown in
@@ -39,7 +39,7 @@ loop-line-preserved g c =
 pub returns-in_err-node-clause-err : goal.returns-in_err-node-clause-err
 returns-in_err-node-clause-err g c =
     let p = err_from_is_err_and c.from_residual.result c.from_residual.ensures.1 in
-    rw (c.node.ensures.same, p.1)
+    rw (c.node.ensures.unchanged, p.1)
     (stopped_before c.args.caller (take c.loop-line.line-index c.args.steps.now) c.args.steps.now c.args.self.now c.loop-line.self (take_is_prefix c.loop-line.line-index c.args.steps.now) c.loop-line.invariant.done)
 
 pub returns-in-NoMemory-clause-err : goal.returns-in-NoMemory-clause-err
@@ -49,7 +49,7 @@ returns-in-NoMemory-clause-err g c =
     let item = c.loop-line-item.result in
     let u = c.in_ok-node.node in
     let next = c.step.new.self in
-    let added = rw c.node.ensures.same at c.step.ensures.added in
+    let added = rw c.node.ensures.unchanged at c.step.ensures.added in
     let within : IsPrefix (take i steps ++ (u.line, u.step) ∷ []) steps =
     subst (λ (l : List (ℕ × Step)). IsPrefix l steps)
     (take_with_item steps i item c.loop-line-test.true c.loop-line-item.is ∙ ap (λ n. take i steps ++ (n.line, n.step) ∷ []) (sym c.in_ok-node.ensures.node))

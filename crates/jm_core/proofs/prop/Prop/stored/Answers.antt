@@ -15,7 +15,7 @@ returns-clause-value g c =
     let kept = instances_of (stored_of c.self.inside.live.store) in
     subst (λ (l : List Binding). IfOk c.stored.result (λ list. AreInOrder l list.items)) (ap (λ core. core.stored) c.self.view_is)
     (both_ok c.stored.result (λ list. IsPermutation kept list.items) (λ list. IsSorted binding_cmp list.items) (λ list. AreInOrder kept list.items)
-    (λ list same ordered. record { same = same; ordered = ordered }) c.stored.ensures.same c.stored.ensures.ordered)
+    (λ list same ordered. record { same = same; ordered = ordered }) c.stored.ensures.permutation c.stored.ensures.ordered)
 
 pub returns-clause-fits : goal.returns-clause-fits
 returns-clause-fits g c =

@@ -12,7 +12,7 @@ returns-in-Some-Nonterminal c =
     let g = c.args.self.now.grammar in
     let n = c.in-Some-Nonterminal.n in
     let after : symbol_after g c.args.item ≡ Some (Nonterminal n) = sym c.symbol_after.ensures.value ∙ c.in-Some-Nonterminal.is ∙ ap (λ (s : GrammarSymbol). Some s) c.in-Some-Nonterminal.field-0-is in
-    on_ok_both c.add.result (λ here others. waiting_more g c.args.waiting.now c.add.new.self c.args.item n after here others) c.add.ensures.here c.add.ensures.others
+    on_ok_both c.add.result (λ here others. waiting_more g c.args.waiting.now c.add.new.self c.args.item n after here others) c.add.ensures.at_key c.add.ensures.others
 
 pub returns-in-Some-Letter : goal.returns-in-Some-Letter
 returns-in-Some-Letter c =

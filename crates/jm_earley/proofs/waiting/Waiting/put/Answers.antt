@@ -4,8 +4,8 @@ use Rattle.jm_earley.specs.declared.item.Item.{Item}
 use Rattle.jm_earley.proofs.WaitingLemmas.{written_here, written_elsewhere}
 use Rattle.jm_earley.proofs.waiting.Waiting.put.Goals as goal
 
-pub returns-clause-here : goal.returns-clause-here
-returns-clause-here c =
+pub returns-clause-at_key : goal.returns-clause-at_key
+returns-clause-at_key c =
     let lists = c.self.inside.lists.items in
     let within : c.args.n < length (map (λ b. b.items) lists) = subst (λ (l : List (List Item)). c.args.n < length l) (sym c.self.view_is) c.requires in
     let lt : c.args.n < length lists = subst (λ k. c.args.n < k) (length-map lists (λ b. b.items)) within in

@@ -12,7 +12,7 @@ invariant_of-self-2 c =
     let ends_are : c.push_reserved.new.self.items ≡ c.self.inside.ends.items ++ (length c.self.inside.bytes.items + length c.args.name.now) ∷ [] =
     c.push_reserved.ensures.items ∙ ap (λ ends. ends ++ c.len.result ∷ []) c.reserve-2.ensures.items ∙ ap (λ end. c.self.inside.ends.items ++ end ∷ []) end in
     let hashes_are : c.push_reserved-2.new.self.hashes ≡ c.self.inside.chains.hashes ++ c.args.hash ∷ [] =
-    c.push_reserved-2.ensures ∙ ap (λ hashes. hashes ++ c.args.hash ∷ []) c.reserve.ensures.same in
+    c.push_reserved-2.ensures ∙ ap (λ hashes. hashes ++ c.args.hash ∷ []) c.reserve.ensures.unchanged in
     let new = rw (← c.self.view_is) at c.requires.absent in
     let room = rw (← c.self.view_is) at c.requires.room in
     let few : length c.self.inside.ends.items < 4294967295 = omega (arith, room, length-texts_from 0 c.self.inside.bytes.items c.self.inside.ends.items) in

@@ -4,7 +4,7 @@ use Rattle.jm_events.proofs.table.EventTable.define.Goals as goal
 
 pub invariant_of-self-2 : goal.invariant_of-self-2
 invariant_of-self-2 c =
-    let room : length c.self.inside.events < 32 = omega (arith, c.letters.ensures.value, c.letters.ensures.few, rw (← c.self.view_is, length-events_of _ _ c.self.invariant.row_each) at c.letters.ensures.value) in
+    let room : length c.self.inside.events < 32 = omega (arith, c.letters.ensures.value, c.letters.ensures.bounded, rw (← c.self.view_is, length-events_of _ _ c.self.invariant.row_each) at c.letters.ensures.value) in
     rw (c.in_ok-number.ensures.ok, c.push_reserved.ensures.items, c.reserve.ensures.items)
     (IsTable-push _ _ _ _ _ c.self.invariant room (rw (← c.self.view_is) at c.requires.bits))
 

@@ -24,9 +24,9 @@ returns-clause-filed c =
     let mine : c.file.new.self.owner ≡ c.args.path = c.file.ensures.owner ∙ owner_now t c.args.path c.args.number _ owned c.index_mut-posting.ensures.value in
     filed_as _ _ _ _ _ is (posting_written t c.args.path c.args.number c.file.new.self owned mine) c.file.ensures.filed
 
-pub returns-clause-there : goal.returns-clause-there
-returns-clause-there c =
+pub returns-clause-present : goal.returns-clause-present
+returns-clause-present c =
     let t : Paths = record { leaves = c.self.inside.leaves.items; postings = c.self.inside.postings.items } in
     let owned : IsOwned t c.args.path c.args.number = subst (λ (v : Paths). IsOwned v c.args.path c.args.number) (sym c.self.view_is) c.requires.owned in
     let mine : c.file.new.self.owner ≡ c.args.path = c.file.ensures.owner ∙ owner_now t c.args.path c.args.number _ owned c.index_mut-posting.ensures.value in
-    subst (λ (v : List ℕ). OnOk c.file.result (Contains v c.args.position)) (sym (posting_written t c.args.path c.args.number c.file.new.self owned mine)) c.file.ensures.there
+    subst (λ (v : List ℕ). OnOk c.file.result (Contains v c.args.position)) (sym (posting_written t c.args.path c.args.number c.file.new.self owned mine)) c.file.ensures.present

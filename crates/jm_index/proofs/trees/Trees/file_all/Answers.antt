@@ -13,7 +13,7 @@ loop-bound-init c =
     record {
       within = omega arith;
       filed = AreFiled-one _ _ _ _ _ _ c.in_ok-file.ensures.filed c.in_ok-file.ensures.others c.in_ok-file.ensures.other_trees (λ o same. absurd (omega (arith, same)));
-      whole = c.in_ok-file.ensures.there;
+      whole = c.in_ok-file.ensures.present;
       each = λ p o h. absurd (omega (arith, h));
     }
 
@@ -32,11 +32,11 @@ loop-bound-preserved c =
       within = omega (arith, bound.within);
       filed = AreFiled-trans _ _ _ _ _ c.loop-bound.invariant.filed filed;
       whole = filed.kept _ _ _ c.loop-bound.invariant.whole;
-      each = each_step _ _ _ _ _ _ _ c.loop-bound.invariant.each (λ o there. filed.kept _ _ _ there) bound.between bound.object (λ live. c.in_ok-file_object.ensures.there live);
+      each = each_step _ _ _ _ _ _ _ c.loop-bound.invariant.each (λ o there. filed.kept _ _ _ there) bound.between bound.object (λ live. c.in_ok-file_object.ensures.present live);
     }
 
-pub returns-clause-there : goal.returns-clause-there
-returns-clause-there c =
+pub returns-clause-present : goal.returns-clause-present
+returns-clause-present c =
     let none = c.in_default.ensures.none in
     rw (← c.mask-mask.ensures.value) (all_paths _ _ _ _ c.loop-bound.invariant.whole
     (λ p o at live. elim (cases_lt p c.loop-bound.from) [ inl below ↦ c.loop-bound.invariant.each p o below at live | inr past ↦ absurd (none-some o (sym (none p past) ∙ at)) ]))

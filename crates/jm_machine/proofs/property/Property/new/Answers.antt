@@ -24,7 +24,7 @@ invariant_of-result c =
     let filled = c.in_ok-masks.ensures.value in
     let creation = c.in_ok-goal.ensures.creation in
     rw c.into_handlers.ensures (
-      made_goal t c.args.formula masks handling.handlers goal filled creation handling.categories c.requires.categories c.in_ok-goal.ensures.groups c.in_ok-masks.ensures.few
+      made_goal t c.args.formula masks handling.handlers goal filled creation handling.categories c.requires.categories c.in_ok-goal.ensures.groups c.in_ok-masks.ensures.bounded
           (bits_below goal.resets (length handling.handlers) (subst (λ n. n < 2 ^ length handling.handlers) (sym c.in_ok-goal.ensures.resets) c.requires.handling.there)),
       made_set t c.args.formula masks handling.handlers goal filled creation (engine_of prepared) engine,
       record {

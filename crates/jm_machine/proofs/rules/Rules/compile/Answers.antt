@@ -100,7 +100,7 @@ none_suffixed c =
 made_here : (c : After-remove-first) → AreParts c.args.bytes.now c.args.tree.now.full_binding c.args.tokens.now c.args.tree.now.table (properties_of c.args.tree.now) c.in_ok-formulas.formulas.items (c.remove-first.result ∷ c.remove-first.new.self.items)
 made_here c =
     made c.args.bytes.now c.args.tokens.now c.args.tree.now c.as_slice-properties.result.now c.in_ok-formulas.formulas.items c.as_slice.result.now c.as_slice-properties.ensures.value c.as_slice.ensures.value c.in_ok-parts.parts.items c.remove-first.result
-    c.remove-first.new.self.items c.requires.few.0 c.in_ok-parts.ensures.parts c.remove-first.ensures.value c.remove-first.ensures.items
+    c.remove-first.new.self.items c.requires.bounded.0 c.in_ok-parts.ensures.parts c.remove-first.ensures.value c.remove-first.ensures.items
 
 pub new-requires-clause-alike : goal.new-requires-clause-alike
 new-requires-clause-alike c =

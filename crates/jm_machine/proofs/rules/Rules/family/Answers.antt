@@ -22,7 +22,7 @@ pub loop-number-init : goal.loop-number-init
 loop-number-init c =
     let own = c.property.result.now in
     let plain = plain_some (is_grammar own.definition.formula) c.in_ok-all.field-0 c.in-Some.all c.in_ok-all.ensures.none c.in-Some.is in
-    join_first c.args.self.now c.args.letter.0 own c.in-Some.all.items c.property.ensures plain (rw c.in-Some.is at (c.in_ok-all.ensures.family plain)) (rw c.in-Some.is at c.in_ok-all.ensures.few)
+    join_first c.args.self.now c.args.letter.0 own c.in-Some.all.items c.property.ensures plain (rw c.in-Some.is at (c.in_ok-all.ensures.family plain)) (rw c.in-Some.is at c.in_ok-all.ensures.bounded)
 
 pub returns-in_default-2-clause-family : goal.returns-in_default-2-clause-family
 returns-in_default-2-clause-family c = λ none.
@@ -34,7 +34,7 @@ loop-number-preserved c =
     let own = c.property-in-loop-number.result.now in
     let plain = plain_some (is_grammar own.definition.formula) c.in_ok-masks.field-0 c.in-Some-2.masks c.in_ok-masks.ensures.none c.in-Some-2.is in
     join_more c.args.self.now c.args.letter.0 c.loop-number.number own c.property-in-loop-number.ensures c.loop-number.all.items c.in-Some-2.masks.items c.in_ok-all-2.all.items c.loop-number.invariant plain
-    (rw c.in-Some-2.is at (c.in_ok-masks.ensures.family plain)) (rw c.in-Some-2.is at c.in_ok-masks.ensures.few) c.in_ok-all-2.ensures.rising c.in_ok-all-2.ensures.few
+    (rw c.in-Some-2.is at (c.in_ok-masks.ensures.family plain)) (rw c.in-Some-2.is at c.in_ok-masks.ensures.bounded) c.in_ok-all-2.ensures.rising c.in_ok-all-2.ensures.bounded
     (rw (c.as_slice.ensures.value, c.as_slice-in-loop-number.ensures.value) at c.in_ok-all-2.ensures.exact)
 
 pub returns-clause-family : goal.returns-clause-family

@@ -19,7 +19,7 @@ stranger c = elim c.then-not-self.branch [
 
 pub invariant_of-self-then-not-self : goal.invariant_of-self-then-not-self
 invariant_of-self-then-not-self c = (
-  AreMarks-more _ _ _ _ _ _ c.args.binding _ c.self.invariant.0 c.raised-self-inside.ensures.more c.raised-self-inside.ensures.within c.list_mask.ensures.kept c.list_mask.ensures.there c.mask.ensures.value
+  AreMarks-more _ _ _ _ _ _ c.args.binding _ c.self.invariant.0 c.raised-self-inside.ensures.more c.raised-self-inside.ensures.within c.list_mask.ensures.kept c.list_mask.ensures.present c.mask.ensures.value
       (put_within _ _ _ _ c.put.ensures),
   put_apart _ _ _ c.args.binding _ c.put.ensures (stranger c) c.self.invariant.1,
   c.self.invariant.2,
@@ -39,7 +39,7 @@ returns-else-not-contains-clause-unknown c =
 pub invariant_of-self-in-Ok-true : goal.invariant_of-self-in-Ok-true
 invariant_of-self-in-Ok-true c =
     let done = c.in-Ok-true.ensures in (
-      AreMarks-more _ _ _ _ _ _ c.args.binding _ c.self.invariant.0 c.raised-self-inside.ensures.more c.raised-self-inside.ensures.within c.list_mask.ensures.kept c.list_mask.ensures.there c.mask.ensures.value
+      AreMarks-more _ _ _ _ _ _ c.args.binding _ c.self.invariant.0 c.raised-self-inside.ensures.more c.raised-self-inside.ensures.within c.list_mask.ensures.kept c.list_mask.ensures.present c.mask.ensures.value
           (insert_within _ _ _ _ done.keys),
       insert_apart _ _ _ c.args.binding _ _ done.keys done.unique c.in_default.ensures.none
           (elim c.if-self.branch [
@@ -53,7 +53,7 @@ invariant_of-self-in-Ok-true c =
 pub invariant_of-self-else-insert : goal.invariant_of-self-else-insert
 invariant_of-self-else-insert c =
     let done = c.in-Ok-false.ensures in (
-      AreMarks-more _ _ _ _ _ _ c.args.binding _ c.self.invariant.0 c.raised-self-inside.ensures.more c.raised-self-inside.ensures.within c.list_mask.ensures.kept c.list_mask.ensures.there c.mask.ensures.value
+      AreMarks-more _ _ _ _ _ _ c.args.binding _ c.self.invariant.0 c.raised-self-inside.ensures.more c.raised-self-inside.ensures.within c.list_mask.ensures.kept c.list_mask.ensures.present c.mask.ensures.value
           (insert_within _ _ _ _ done.keys),
       insert_apart _ _ _ c.args.binding _ _ done.keys done.unique c.in_default.ensures.none
           (elim c.if-self.branch [

@@ -15,11 +15,11 @@ invariant_of-self c =
     let a = c.self.inside.objects in
     let p = c.args.p in
     let o = c.args.object in
-    let within : p < length a = omega (arith, c.self.invariant.eight, c.requires.there) in
+    let within : p < length a = omega (arith, c.self.invariant.eight, c.requires.in_range) in
     record {
       eight = length-set a p o ∙ c.self.invariant.eight;
       mask_fits = or_of_8 m (1 * 2 ^ p % 256) c.self.invariant.mask_fits (omega arith);
-      unbound = subst (λ k. stored_of (options_of (bit_or m k) (set a p o)) ≡ set a p o) (sym (small p c.requires.there)) (set-unbound m p o a within c.self.invariant.unbound);
+      unbound = subst (λ k. stored_of (options_of (bit_or m k) (set a p o)) ≡ set a p o) (sym (small p c.requires.in_range)) (set-unbound m p o a within c.self.invariant.unbound);
     }
 
 pub returns : goal.returns
@@ -28,5 +28,5 @@ returns c =
     let a = c.self.inside.objects in
     let p = c.args.p in
     let o = c.args.object in
-    let within : p < length a = omega (arith, c.self.invariant.eight, c.requires.there) in
-    ap (λ k. options_of (bit_or m k) (set a p o)) (small p c.requires.there) ∙ options_of-set m p o a within ∙ ap (λ b. set b p (Some o)) c.self.view_is
+    let within : p < length a = omega (arith, c.self.invariant.eight, c.requires.in_range) in
+    ap (λ k. options_of (bit_or m k) (set a p o)) (small p c.requires.in_range) ∙ options_of-set m p o a within ∙ ap (λ b. set b p (Some o)) c.self.view_is

@@ -16,7 +16,7 @@ returns-then-mask-eq0 c =
 pub pair-requires : goal.pair-requires
 pair-requires c =
     let b = c.args.binding.now in
-    names-here c.args.self.now c.loop-p.p c.in-Some.object b (omega (arith, c.mask.ensures.eight, c.params-p-end.ensures.few)) (sym c.get.ensures ∙ c.in-Some.is) c.loop-p.invariant.names
+    names-here c.args.self.now c.loop-p.p c.in-Some.object b (omega (arith, c.mask.ensures.eight, c.params-p-end.ensures.bounded)) (sym c.get.ensures ∙ c.in-Some.is) c.loop-p.invariant.names
 
 pub loop-p-preserved : goal.loop-p-preserved
 loop-p-preserved c =
@@ -24,7 +24,7 @@ loop-p-preserved c =
     let b = c.args.binding.now in
     let p = c.loop-p.p in
     let all = c.args.page.now ++ binding_text l b in
-    let within : p < length b = omega (arith, c.mask.ensures.eight, c.params-p-end.ensures.few) in
+    let within : p < length b = omega (arith, c.mask.ensures.eight, c.params-p-end.ensures.bounded) in
     let later = drop (p + 1) b in
     elim c.match-get.branch [
       | in-Some+in_ok-pair w ↦

@@ -11,7 +11,7 @@ pub lent_event-requires : goal.lent_event-requires
 lent_event-requires c =
     let own = event_entry c.in-Some.event in
     record {
-      printable = subst (λ (v : Entry). IsPrintable c.args.self.now v) (get_or_from_slice_get c.args.piece.now c.args.i own own c.in-Some.ensures.entry) (c.requires.printable c.args.i own c.requires.there);
+      printable = subst (λ (v : Entry). IsPrintable c.args.self.now v) (get_or_from_slice_get c.args.piece.now c.args.i own own c.in-Some.ensures.entry) (c.requires.printable c.args.i own c.requires.in_range);
       objects = c.in-Some.ensures.objects;
     }
 

@@ -9,7 +9,7 @@ use Rattle.jm_print.proofs.history.Printer.other_at.Goals as goal
 pub entry-requires : goal.entry-requires
 entry-requires c =
     let own = c.get.result in
-    subst (λ (v : Entry). IsPrintable c.args.self.now v) (get_or_from_slice_get c.args.piece.now c.args.i own own c.get.ensures) (c.requires.printable c.args.i own c.requires.there)
+    subst (λ (v : Entry). IsPrintable c.args.self.now v) (get_or_from_slice_get c.args.piece.now c.args.i own own c.get.ensures) (c.requires.printable c.args.i own c.requires.in_range)
 
 pub returns : goal.returns
 returns c =

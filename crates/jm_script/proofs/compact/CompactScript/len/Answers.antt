@@ -17,7 +17,7 @@ returns-clause-value c =
     let count = length_lines c.self.inside.full.items c.self.inside.last c.self.invariant.each in
     omega (arith, count, c.len.ensures, c.len-2.ensures, ap length c.self.view_is)
 
-pub returns-clause-few : goal.returns-clause-few
-returns-clause-few c =
+pub returns-clause-bounded : goal.returns-clause-bounded
+returns-clause-bounded c =
     let count = length_lines c.self.inside.full.items c.self.inside.last c.self.invariant.each in
     omega (arith, count, c.self.invariant.few, c.len.ensures, c.len-2.ensures)

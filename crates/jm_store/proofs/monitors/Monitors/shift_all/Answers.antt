@@ -14,7 +14,7 @@ invariant_of-self g c =
     let alike : AreAlike slots new = subst (λ (l : List (Slot g.row.S.Denot)). AreAlike l new) value c.shift_all.ensures.alike in
     rw (written_back c.self.inside.slots.len slots new whole alike.size) (c.self.invariant ∙ alike_counted slots new alike)
 
-pub shift_all-requires-clause-there : goal.shift_all-requires-clause-there
-shift_all-requires-clause-there g c =
+pub shift_all-requires-clause-present : goal.shift_all-requires-clause-present
+shift_all-requires-clause-present g c =
     subst (λ (l : List (Slot g.row.S.Denot)). HaveMonitors c.args.shifts.now (monitors_of l)) (sym c.as_mut_slice.ensures.value)
-    (subst (λ (s : SlotList g.row.S.Denot). HaveMonitors c.args.shifts.now (monitors_of s.slots)) (sym c.self.view_is) c.requires.there)
+    (subst (λ (s : SlotList g.row.S.Denot). HaveMonitors c.args.shifts.now (monitors_of s.slots)) (sym c.self.view_is) c.requires.present)

@@ -24,7 +24,7 @@ tell_listed-requires-clause-live g c = λ o binds. c.requires.can.event.live o (
 pub returns-in_default-clause-advances : goal.returns-in_default-clause-advances
 returns-in_default-clause-advances g c =
     let S = g.row.M-State.Denot in
-    let same : c.give_room.new.self ≡ c.args.self.now = c.give_room.ensures ∙ c.take_room-sifted.ensures.same in
+    let same : c.give_room.new.self ≡ c.args.self.now = c.give_room.ensures ∙ c.take_room-sifted.ensures.unchanged in
     record {
       stored = ap stored_of same;
       unmarked = ap (λ (s : Contents S). s.marks) same;
@@ -62,19 +62,19 @@ shift_all-requires-clause-apart g c =
     let b = c.args.call.now.binding.now in
     let e = c.args.call.now.letter.0 in
     let dead = c.args.call.now.objects.now in
-    let whole = c.self.view_is ∙ c.take_room-sifted.ensures.same in
+    let whole = c.self.view_is ∙ c.take_room-sifted.ensures.unchanged in
     let few = c.tell_listed.new.sifted.moves.items in
     let shifts = take c.in-Some.reading.count c.tell_listed.new.sifted.shifts.items in
     let rests = c.tell_listed.new.sifted.rests.items in
     let reading =
     subst (λ (l : List Binding). IsReading m Stands HasNumber e dead b l old lists (slots_listed lists place) c.tell_listed.new.sifted.shifts.items few rests c.in-Some.reading) (ap (λ (s : Contents S). s.marks) whole)
     (subst (λ (s : Contents S). IsReading m Stands HasNumber e dead b c.self.inside.marks.list s lists (slots_listed lists place) c.tell_listed.new.sifted.shifts.items few rests c.in-Some.reading)
-    (c.take_room-sifted.ensures.same) c.in-Some.ensures.reading) in
+    (c.take_room-sifted.ensures.unchanged) c.in-Some.ensures.reading) in
     let parted = parted_of (IsShiftAt m Stands HasNumber e dead b old.ending lists old.monitors) (IsReadAt m Stands e b dead old.marks old.monitors) (slots_listed lists place) shifts few rests reading.sifted in
     rw c.as_slice.ensures.value (parted_apart m Stands HasNumber e b dead old lists place shifts few c.requires.list.of_event c.requires.list.listed parted)
 
-pub shift_all-requires-clause-there : goal.shift_all-requires-clause-there
-shift_all-requires-clause-there g c =
+pub shift_all-requires-clause-present : goal.shift_all-requires-clause-present
+shift_all-requires-clause-present g c =
     let S = g.row.M-State.Denot in
     let m = g.M.Monitor.meaning (g.M.Monitor.definition c.args.call.now.rules.now) in
     let Stands = g.M.Monitor.StandsFor c.args.call.now.rules.now in
@@ -85,14 +85,14 @@ shift_all-requires-clause-there g c =
     let b = c.args.call.now.binding.now in
     let e = c.args.call.now.letter.0 in
     let dead = c.args.call.now.objects.now in
-    let whole = c.self.view_is ∙ c.take_room-sifted.ensures.same in
+    let whole = c.self.view_is ∙ c.take_room-sifted.ensures.unchanged in
     let few = c.tell_listed.new.sifted.moves.items in
     let shifts = take c.in-Some.reading.count c.tell_listed.new.sifted.shifts.items in
     let rests = c.tell_listed.new.sifted.rests.items in
     let reading =
     subst (λ (l : List Binding). IsReading m Stands HasNumber e dead b l old lists (slots_listed lists place) c.tell_listed.new.sifted.shifts.items few rests c.in-Some.reading) (ap (λ (s : Contents S). s.marks) whole)
     (subst (λ (s : Contents S). IsReading m Stands HasNumber e dead b c.self.inside.marks.list s lists (slots_listed lists place) c.tell_listed.new.sifted.shifts.items few rests c.in-Some.reading)
-    (c.take_room-sifted.ensures.same) c.in-Some.ensures.reading) in
+    (c.take_room-sifted.ensures.unchanged) c.in-Some.ensures.reading) in
     let parted = parted_of (IsShiftAt m Stands HasNumber e dead b old.ending lists old.monitors) (IsReadAt m Stands e b dead old.marks old.monitors) (slots_listed lists place) shifts few rests reading.sifted in
     rw (c.as_slice.ensures.value, ap (λ (s : Contents S). s.monitors) whole) (parted_there m Stands HasNumber e b dead old lists place shifts few c.requires.list.of_event c.requires.list.listed parted)
 
@@ -112,14 +112,14 @@ apply-requires-clause-ready g c =
     let b = c.args.call.now.binding.now in
     let e = c.args.call.now.letter.0 in
     let dead = c.args.call.now.objects.now in
-    let whole = c.self.view_is ∙ c.take_room-sifted.ensures.same in
+    let whole = c.self.view_is ∙ c.take_room-sifted.ensures.unchanged in
     let few = c.tell_listed.new.sifted.moves.items in
     let shifts = take c.in-Some.reading.count c.tell_listed.new.sifted.shifts.items in
     let rests = c.tell_listed.new.sifted.rests.items in
     let reading =
     subst (λ (l : List Binding). IsReading m Stands HasNumber e dead b l old lists (slots_listed lists place) c.tell_listed.new.sifted.shifts.items few rests c.in-Some.reading) (ap (λ (s : Contents S). s.marks) whole)
     (subst (λ (s : Contents S). IsReading m Stands HasNumber e dead b c.self.inside.marks.list s lists (slots_listed lists place) c.tell_listed.new.sifted.shifts.items few rests c.in-Some.reading)
-    (c.take_room-sifted.ensures.same) c.in-Some.ensures.reading) in
+    (c.take_room-sifted.ensures.unchanged) c.in-Some.ensures.reading) in
     let parted = parted_of (IsShiftAt m Stands HasNumber e dead b old.ending lists old.monitors) (IsReadAt m Stands e b dead old.marks old.monitors) (slots_listed lists place) shifts few rests reading.sifted in
     let slots = c.self.inside.monitors.slots in
     let new = c.shift_all.new.self.slots in
@@ -154,14 +154,14 @@ returns-clause-advances g c =
     let b = c.args.call.now.binding.now in
     let e = c.args.call.now.letter.0 in
     let dead = c.args.call.now.objects.now in
-    let whole = c.self.view_is ∙ c.take_room-sifted.ensures.same in
+    let whole = c.self.view_is ∙ c.take_room-sifted.ensures.unchanged in
     let few = c.tell_listed.new.sifted.moves.items in
     let shifts = take c.in-Some.reading.count c.tell_listed.new.sifted.shifts.items in
     let rests = c.tell_listed.new.sifted.rests.items in
     let reading =
     subst (λ (l : List Binding). IsReading m Stands HasNumber e dead b l old lists (slots_listed lists place) c.tell_listed.new.sifted.shifts.items few rests c.in-Some.reading) (ap (λ (s : Contents S). s.marks) whole)
     (subst (λ (s : Contents S). IsReading m Stands HasNumber e dead b c.self.inside.marks.list s lists (slots_listed lists place) c.tell_listed.new.sifted.shifts.items few rests c.in-Some.reading)
-    (c.take_room-sifted.ensures.same) c.in-Some.ensures.reading) in
+    (c.take_room-sifted.ensures.unchanged) c.in-Some.ensures.reading) in
     let parted = parted_of (IsShiftAt m Stands HasNumber e dead b old.ending lists old.monitors) (IsReadAt m Stands e b dead old.marks old.monitors) (slots_listed lists place) shifts few rests reading.sifted in
     let slots = c.self.inside.monitors.slots in
     let new = c.shift_all.new.self.slots in
@@ -212,14 +212,14 @@ returns-clause-listed g c =
     let b = c.args.call.now.binding.now in
     let e = c.args.call.now.letter.0 in
     let dead = c.args.call.now.objects.now in
-    let whole = c.self.view_is ∙ c.take_room-sifted.ensures.same in
+    let whole = c.self.view_is ∙ c.take_room-sifted.ensures.unchanged in
     let few = c.tell_listed.new.sifted.moves.items in
     let shifts = take c.in-Some.reading.count c.tell_listed.new.sifted.shifts.items in
     let rests = c.tell_listed.new.sifted.rests.items in
     let reading =
     subst (λ (l : List Binding). IsReading m Stands HasNumber e dead b l old lists (slots_listed lists place) c.tell_listed.new.sifted.shifts.items few rests c.in-Some.reading) (ap (λ (s : Contents S). s.marks) whole)
     (subst (λ (s : Contents S). IsReading m Stands HasNumber e dead b c.self.inside.marks.list s lists (slots_listed lists place) c.tell_listed.new.sifted.shifts.items few rests c.in-Some.reading)
-    (c.take_room-sifted.ensures.same) c.in-Some.ensures.reading) in
+    (c.take_room-sifted.ensures.unchanged) c.in-Some.ensures.reading) in
     let parted = parted_of (IsShiftAt m Stands HasNumber e dead b old.ending lists old.monitors) (IsReadAt m Stands e b dead old.marks old.monitors) (slots_listed lists place) shifts few rests reading.sifted in
     let slots = c.self.inside.monitors.slots in
     let new = c.shift_all.new.self.slots in
@@ -253,7 +253,7 @@ tell_listed-requires-clause-list g c =
     let S = g.row.M-State.Denot in
     let m = g.M.Monitor.meaning (g.M.Monitor.definition c.args.call.now.rules.now) in
     let Stands = g.M.Monitor.StandsFor c.args.call.now.rules.now in
-    let same = c.take_room-sifted.ensures.same in
+    let same = c.take_room-sifted.ensures.unchanged in
     let marks = ap (λ (s : Contents S). s.marks) (c.self.view_is ∙ same) in
     record {
       known = subst (λ (l : List Binding). Contains l c.args.call.now.binding.now) (sym marks) c.requires.list.known;

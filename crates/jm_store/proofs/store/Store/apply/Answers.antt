@@ -8,11 +8,11 @@ use Rattle.jm_store.proofs.FitLemmas.{housed_fits}
 use Rattle.jm_store.proofs.store.Store.apply.Goals as goal
 
 pub follow_moves-requires : goal.follow_moves-requires
-follow_moves-requires g c = rw (c.as_slice-2.ensures.value, c.end_fewer.ensures.same) (record { apart = c.requires.ready.apart; leads = c.requires.ready.leads })
+follow_moves-requires g c = rw (c.as_slice-2.ensures.value, c.end_fewer.ensures.unchanged) (record { apart = c.requires.ready.apart; leads = c.requires.ready.leads })
 
 pub loop-step-init : goal.loop-step-init
 loop-step-init g c = record {
-  closed = rw c.end_fewer.ensures.same c.requires.closed;
+  closed = rw c.end_fewer.ensures.unchanged c.requires.closed;
   monitors = refl;
   marks = refl;
   dropped = refl;
@@ -20,7 +20,7 @@ loop-step-init g c = record {
   fewer = λ e d ends. ends;
   ended = rw c.as_slice.ensures.value at c.end_fewer.ensures.ended;
   apart = c.requires.ready.apart;
-  leads = rw c.end_fewer.ensures.same c.requires.ready.leads;
+  leads = rw c.end_fewer.ensures.unchanged c.requires.ready.leads;
 }
 
 pub carry_out-requires : goal.carry_out-requires
@@ -52,7 +52,7 @@ returns-clause-applied g c =
     let S = g.row.M-State.Denot in
     let none : length c.loop-step.moves.items ≡ 0 = grind (arith, common_steps) in
     let inv = c.loop-step.invariant in
-    let same = c.end_fewer.ensures.same in
+    let same = c.end_fewer.ensures.unchanged in
     let whole = c.give_moves.ensures in
     let marks = inv.marks ∙ ap (λ (s : Contents S). s.marks) same in
     rw whole (record {
@@ -73,7 +73,7 @@ returns-clause-listed g c = λ dead listed.
     let m = g.M.Monitor.meaning (g.M.Monitor.definition c.args.rules.now) in
     let Stands = g.M.Monitor.StandsFor c.args.rules.now in
     let none : length c.loop-step.moves.items ≡ 0 = grind (arith, common_steps) in
-    let same = c.end_fewer.ensures.same in
+    let same = c.end_fewer.ensures.unchanged in
     let monitors = ap (λ (s : Contents S). s.monitors) same in
     let after = sym (after_none c.loop-step.moves.items c.loop-step.self.monitors none) ∙ c.loop-step.invariant.monitors in
     let followed = rw c.as_slice-2.ensures.value at c.follow_moves.ensures in

@@ -22,7 +22,7 @@ returns-clause-all g c =
           (λ (v : Contents g.row.M-State.Denot). (k : ℕ) (s : Stored g.row.M-State.Denot) → monitor_at v.monitors k ≡ Some s → Contains {X = Pair} v.index.list (record { binding = s.instance; slot = k }))
           whole c.self.invariant.housed.paired in
           let down = rw c.take_slots-slots.ensures at w.drop_cut_in.ensures.down in
-          let there = rw (w.as_slice.ensures.value, c.take_slots-slots.ensures) at w.drop_cut_in.ensures.there in
+          let there = rw (w.as_slice.ensures.value, c.take_slots-slots.ensures) at w.drop_cut_in.ensures.present in
           rw (c.give_slots.ensures, w.self-is) (all_swept m Stands dead c.args.self.now w.drop_cut_in.new.self slots down c.requires.spared paired listed there)
       | in-Err w ↦ rw (c.give_slots.ensures, w.self-is) (rw c.take_slots-slots.ensures at w.drop_cut_everywhere.ensures.all)
     ]

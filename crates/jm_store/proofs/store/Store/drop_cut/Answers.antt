@@ -9,8 +9,8 @@ invariant_of-self g c =
 pub returns-in-Some-clause-monitors : goal.returns-in-Some-clause-monitors
 returns-in-Some-clause-monitors g c = rw (← c.self.view_is, c.release.ensures) (λ k other. freed_other c.self.inside.monitors.slots c.args.slot k _ other)
 
-pub returns-in-Some-clause-here : goal.returns-in-Some-clause-here
-returns-in-Some-clause-here g c =
+pub returns-in-Some-clause-swept : goal.returns-in-Some-clause-swept
+returns-in-Some-clause-swept g c =
     let cut = c.in-Some.ensures.cut in
     let gone = freed_here c.self.inside.monitors.slots c.args.slot c.self.inside.monitors.free cut.0 cut.1 in
     rw (← c.self.view_is, c.release.ensures, cut.1, gone, cut.2) cut.3

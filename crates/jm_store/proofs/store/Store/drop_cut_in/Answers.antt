@@ -30,7 +30,7 @@ loop-slot-preserved g c =
       ];
     }
 
-pub returns-clause-there : goal.returns-clause-there
-returns-clause-there g c = λ k there.
+pub returns-clause-present : goal.returns-clause-present
+returns-clause-present g c = λ k there.
     let whole = take_whole c.args.slots.now c.loop-slot.slot-index c.loop-slot-test.false in
     c.loop-slot.invariant.there k (subst (λ (v : List ℕ). Contains v k) (sym whole) there)

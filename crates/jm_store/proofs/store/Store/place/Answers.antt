@@ -6,7 +6,7 @@ use Rattle.jm_store.proofs.store.Store.place.Goals as goal
 
 pub invariant_of-self-in_err-slot : goal.invariant_of-self-in_err-slot
 invariant_of-self-in_err-slot g c =
-    rw c.in_err-slot.ensures.same (kept_listed _ _ _ _ _ _ c.self.invariant c.in_ok-list_domain.ensures.distinct c.in_ok-list_domain.ensures.kept)
+    rw c.in_err-slot.ensures.unchanged (kept_listed _ _ _ _ _ _ c.self.invariant c.in_ok-list_domain.ensures.distinct c.in_ok-list_domain.ensures.kept)
 
 pub add-requires : goal.add-requires
 add-requires g c = c.has.ensures.no c.if-has.false
@@ -22,7 +22,7 @@ invariant_of-self-in-Ok g c =
 pub invariant_of-self-in-Err : goal.invariant_of-self-in-Err
 invariant_of-self-in-Err g c =
     let open_now = rw (← c.self.view_is) at c.requires.open in
-    rw (c.in-Err.ensures.same, c.release.ensures)
+    rw (c.in-Err.ensures.unchanged, c.release.ensures)
     (kept_released _ _ _ _ _ _ _ c.in_ok-slot.slot _ open_now c.self.invariant c.in_ok-slot.ensures.reserved c.in_ok-list_domain.ensures.distinct c.in_ok-list_domain.ensures.kept)
 
 pub returns-in-Ok-clause-fits : goal.returns-in-Ok-clause-fits

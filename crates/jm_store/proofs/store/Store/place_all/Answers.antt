@@ -7,7 +7,7 @@ use Rattle.jm_store.proofs.store.Store.place_all.Goals as goal
 
 pub loop-step-init : goal.loop-step-init
 loop-step-init g c =
-    rw (c.lend_room.ensures.same, c.lend_room.ensures.none)
+    rw (c.lend_room.ensures.unchanged, c.lend_room.ensures.none)
     (record {
       open_now = c.requires.«open»;
       kept = contents_kept c.args.self.now;

@@ -40,7 +40,7 @@ returns-in-Ok-clause-paired g c = rw (← c.self-2.view_is) (are_paired _ _ _ c.
 
 pub invariant_of-self : goal.invariant_of-self
 invariant_of-self g c =
-    let same = rw (← c.self-2.view_is) at c.in-Err.ensures.same in
+    let same = rw (← c.self-2.view_is) at c.in-Err.ensures.unchanged in
     let monitors = rw (← c.self-2.view_is) at c.in-Err.ensures.kept.monitors in
     record {
       housed = c.self-2.invariant.housed;

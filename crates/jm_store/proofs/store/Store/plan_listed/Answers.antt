@@ -30,7 +30,7 @@ returns-then-is_empty-2-clause-plans g c =
     let b = c.args.call.now.binding.now in
     let dead = c.args.call.now.objects.now in
     let moves = c.in_ok-moves.moves.items in
-    let same : c.take_moves-moves.new.self ≡ old = c.take_moves-moves.ensures.same in
+    let same : c.take_moves-moves.new.self ≡ old = c.take_moves-moves.ensures.unchanged in
     let marks : c.self.inside.marks.list ≡ old.marks = ap (λ v. v.marks) c.self.view_is ∙ ap (λ (s : Contents g.row.M-State.Denot). s.marks) same in
     let size : length moves ≡ 0 = ap length (sym c.as_slice.ensures.value) ∙ eqb-true (length c.as_slice.result.now) 0 (sym c.is_empty-2.ensures ∙ c.if-is_empty-2.true) in
     let read : AreMovesRead m Stands e b dead old.marks (asks_by true old.ending e b) old.monitors moves =
@@ -44,7 +44,7 @@ pub returns-in_err-plan-clause-plans : goal.returns-in_err-plan-clause-plans
 returns-in_err-plan-clause-plans g c =
     let m = g.M.Monitor.meaning (g.M.Monitor.definition c.args.call.now.rules.now) in
     let Stands = g.M.Monitor.StandsFor c.args.call.now.rules.now in
-    let planned = rw c.take_moves-moves.ensures.same at c.in_err-plan.ensures in
+    let planned = rw c.take_moves-moves.ensures.unchanged at c.in_err-plan.ensures in
     let failed = err_from_is_err_and c.from_residual-in_err-plan.result c.from_residual-in_err-plan.ensures.1 in
     rw failed.1
     (record {
@@ -73,14 +73,14 @@ returns-in_err-moves-clause-plans g c =
     let b = c.args.call.now.binding.now in
     let failed = err_from_is_err_and c.from_residual.result c.from_residual.ensures.1 in
     rw failed.1
-    (subst (λ (s : Contents g.row.M-State.Denot). Plans m Stands dead e b old s (Err failed.0)) (sym c.take_moves-moves.ensures.same) (plans_untouched m Stands dead e b old failed.0 c.requires.can))
+    (subst (λ (s : Contents g.row.M-State.Denot). Plans m Stands dead e b old s (Err failed.0)) (sym c.take_moves-moves.ensures.unchanged) (plans_untouched m Stands dead e b old failed.0 c.requires.can))
 
 pub reach_listed-requires-clause-list : goal.reach_listed-requires-clause-list
 reach_listed-requires-clause-list g c =
     let S = g.row.M-State.Denot in
     let m = g.M.Monitor.meaning (g.M.Monitor.definition c.args.call.now.rules.now) in
     let Stands = g.M.Monitor.StandsFor c.args.call.now.rules.now in
-    let same = c.take_moves-moves.ensures.same in
+    let same = c.take_moves-moves.ensures.unchanged in
     let marks = ap (λ (s : Contents S). s.marks) (c.self.view_is ∙ same) in
     record {
       known = subst (λ (l : List Binding). Contains l c.args.call.now.binding.now) (sym marks) c.requires.list.known;

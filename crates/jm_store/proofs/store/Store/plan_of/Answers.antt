@@ -76,11 +76,11 @@ returns g c =
     let fewer : EndsFewer old.ending c.end_fewer.new.self.ending = rw opened.kept.ending at c.end_fewer.ensures.fewer in
     let known : IsTrue c.args.known → Contains new.marks c.args.call.now.binding.now = λ e.
     subst (λ (l : List Binding). Contains l c.args.call.now.binding.now) (sym opened.kept.marks) (c.requires.known.0 e) in
-    let fits : IsFit c.end_fewer.new.self c.args.call.now.objects.now = rw c.end_fewer.ensures.same
+    let fits : IsFit c.end_fewer.new.self c.args.call.now.objects.now = rw c.end_fewer.ensures.unchanged
     (fit_ending new _ c.args.call.now.objects.now
     (fit_same old new c.args.call.now.objects.now opened.kept.stored opened.kept.marks (opened.fits c.args.call.now.objects.now c.requires.can.fits.index within) c.requires.can.fits)) in
     let keeps : (trace : List ParametricEvent) → IsStoreAfter m Stands trace c.args.call.now.objects.now old → IsStoreAfter m Stands trace c.args.call.now.objects.now c.end_fewer.new.self = λ trace.
-    rw c.end_fewer.ensures.same
+    rw c.end_fewer.ensures.unchanged
     (store_same m Stands trace c.args.call.now.objects.now old (with_ending new c.end_fewer.new.self.ending) opened.kept.stored opened.kept.marks fewer
     (opened_fewer old.index new.index c.args.call.now.objects.now c.args.moves.items c.requires.can.fits.index within opened.fits)) in
     let spares = spared_same m Stands old new opened.kept.stored (opened_fewer old.index new.index c.args.call.now.objects.now c.args.moves.items c.requires.can.fits.index within opened.fits) in
@@ -97,35 +97,35 @@ returns g c =
     let report = rw c.deref.ensures.value at c.in_ok-answer.ensures in
     let moved = rw c.deref-2.ensures.value at c.end_fewer.ensures.ended in
     record {
-      stored = rw c.end_fewer.ensures.same opened.kept.stored;
-      monitors = rw c.end_fewer.ensures.same opened.kept.monitors;
-      marks = rw c.end_fewer.ensures.same opened.kept.marks;
+      stored = rw c.end_fewer.ensures.unchanged opened.kept.stored;
+      monitors = rw c.end_fewer.ensures.unchanged opened.kept.monitors;
+      marks = rw c.end_fewer.ensures.unchanged opened.kept.marks;
       fewer = fewer;
       fits = fits;
       closed = tt;
-      opened = rw c.end_fewer.ensures.same opened.opened;
+      opened = rw c.end_fewer.ensures.unchanged opened.opened;
       binding = refl;
-      plan = rw c.end_fewer.ensures.same
+      plan = rw c.end_fewer.ensures.unchanged
           (plan_for_ending new _ _ (record { twice = c.in_ok-copy.ensures; known = known; apart = placed.apart; placed = placed.leads; filled = placed.filled }));
       keeps = keeps;
-      spares = rw c.end_fewer.ensures.same spares;
-      leaves = rw c.end_fewer.ensures.same
+      spares = rw c.end_fewer.ensures.unchanged spares;
+      leaves = rw c.end_fewer.ensures.unchanged
           (λ spared after done.
           plan_leaves m Stands new after _ (slotted ++ resting) _
           (spared_placed m Stands letter b dead asks old new (moves ++ resting) (moves ++ resting) (slotted ++ resting) full.all (IsPermutation-refl _) all_placed (spares spared)
-          (rw c.end_fewer.ensures.same at fits.index.reached))
+          (rw c.end_fewer.ensures.unchanged at fits.index.reached))
           (after_resting m Stands letter b dead old new moves slotted resting full.each opened.kept.monitors) done);
       works = λ trace holds.
           let may = may_reach m Stands c.args.call.now.letter.0 c.args.call.now.binding.now c.args.call.now.objects.now old.marks c.args.known old.ending (stored_of old) c.requires.known.0 holds.ended in
           let distinct = sorted_distinct m Stands letter b dead asks old new (moves ++ resting) (moves ++ resting) (slotted ++ resting)
           full.all may (IsPermutation-refl _) all_placed opened.housed opened.kept.monitors opened.kept.stored opened.kept.marks trace holds.monitors c.requires.can.event in
           let reported = report (pairs_map (λ r s. r.instance ≢ s.instance) (λ (x : Move g.row.M-State.Denot). x.monitor) moves (distinct_left moves resting distinct)) in
-          rw c.end_fewer.ensures.same
+          rw c.end_fewer.ensures.unchanged
           (plan_works m Stands letter b dead asks old new (moves ++ resting) (moves ++ resting) (slotted ++ resting)
           full.all may (IsPermutation-refl _) all_placed opened.housed opened.kept.monitors opened.kept.stored opened.kept.marks trace holds.monitors c.requires.can.event
           _ (report_still m Stands letter b dead old.monitors moves resting _ full.each reported) _ refl
           (after_resting m Stands letter b dead old new moves slotted resting full.each opened.kept.monitors)
           (placed_or_resting m Stands letter b dead old new moves slotted resting full.each opened.kept.monitors) refl _ fewer holds.ended
           (ending_still m Stands letter b dead old.monitors slotted resting old.ending _ full.each fewer holds.ended moved)
-          (rw c.end_fewer.ensures.same at (keeps trace holds).spared) (rw c.end_fewer.ensures.same at fits.index.reached));
+          (rw c.end_fewer.ensures.unchanged at (keeps trace holds).spared) (rw c.end_fewer.ensures.unchanged at fits.index.reached));
     }

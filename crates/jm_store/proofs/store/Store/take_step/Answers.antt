@@ -27,13 +27,13 @@ place_one-requires-clause-leads g c = rw c.in_ok-open_for.ensures.opened c.requi
 pub carry_out-requires : goal.carry_out-requires
 carry_out-requires g c =
     let step = c.place_one.new.step in
-    rw c.end_one.ensures.same (λ k slot. c.in_ok-place_one.ensures.placed.placed.leads step k (Contains-head step []) slot)
+    rw c.end_one.ensures.unchanged (λ k slot. c.in_ok-place_one.ensures.placed.placed.leads step k (Contains-head step []) slot)
 
 pub close-requires-clause-settled : goal.close-requires-clause-settled
 close-requires-clause-settled g c =
     let p = c.in_ok-place_one.ensures in
     let step = c.place_one.new.step in
-    let carried = rw c.end_one.ensures.same at c.carry_out.ensures in
+    let carried = rw c.end_one.ensures.unchanged at c.carry_out.ensures in
     λ pair there.
     elim (filled_on (with_ending c.place_one.new.self c.end_one.new.self.ending) c.carry_out.new.self [] step carried.bindings carried.slots carried.within
     (one_pair (λ x y. (k : ℕ) → x.slot ≡ Some k → y.slot ≡ Some k → ⊥) step) p.placed.placed.leads carried.done.monitors carried.done.index p.placed.placed.filled pair there) [
@@ -53,7 +53,7 @@ returns-clause-listed g c = λ dead listed.
     let m = g.M.Monitor.meaning (g.M.Monitor.definition c.args.call.now.rules.now) in
     let Stands = g.M.Monitor.StandsFor c.args.call.now.rules.now in
     let p = rw c.in_ok-open_for.ensures.opened at c.in_ok-place_one.ensures in
-    let carried = rw c.end_one.ensures.same at c.carry_out.ensures in
+    let carried = rw c.end_one.ensures.unchanged at c.carry_out.ensures in
     let mid = c.place_one.new.self in
     let step = c.place_one.new.step in
     let first = listed_same m Stands dead None c.args.self.now.monitors mid.monitors c.args.awake.now p.kept.monitors listed in
@@ -64,8 +64,8 @@ returns-clause-listed g c = λ dead listed.
 pub place_one-requires-clause-slotted : goal.place_one-requires-clause-slotted
 place_one-requires-clause-slotted g c = rw c.in_ok-open_for.ensures.opened (λ closed none. (c.requires.known (not-false c.args.known closed)).1 none)
 
-pub returns-in_err-place_one-clause-same : goal.returns-in_err-place_one-clause-same
-returns-in_err-place_one-clause-same g c =
+pub returns-in_err-place_one-clause-unchanged : goal.returns-in_err-place_one-clause-unchanged
+returns-in_err-place_one-clause-unchanged g c =
     let p = rw c.in_ok-open_for.ensures.opened at c.in_err-place_one.ensures in
     in_none c.from_residual-in_err-place_one.result (KeepsContents c.args.self.now c.place_one.new.self)
     (record { stored = p.kept.stored; monitors = p.kept.monitors; marks = p.kept.marks; ending = p.kept.ending })
@@ -81,7 +81,7 @@ returns-in_err-place_one-clause-fits g c =
 pub returns-clause-fits : goal.returns-clause-fits
 returns-clause-fits g c =
     let p = rw c.in_ok-open_for.ensures.opened at c.in_ok-place_one.ensures in
-    let carried = rw c.end_one.ensures.same at c.carry_out.ensures in
+    let carried = rw c.end_one.ensures.unchanged at c.carry_out.ensures in
     record {
       fits = λ dead fit below mine.
           c.close.ensures.fits dead (carried.fits dead (p.fits dead fit.index mine))
@@ -92,7 +92,7 @@ returns-clause-fits g c =
 pub returns-clause-done : goal.returns-clause-done
 returns-clause-done g c =
     let p = rw c.in_ok-open_for.ensures.opened at c.in_ok-place_one.ensures in
-    let carried = rw c.end_one.ensures.same at c.carry_out.ensures in
+    let carried = rw c.end_one.ensures.unchanged at c.carry_out.ensures in
     let step = c.args.step in
     let slotted = c.place_one.new.step in
     let ending = c.close.ensures.kept.ending ∙ c.carry_out.ensures.done.ending in

@@ -14,7 +14,7 @@ returns-then-end_all-clause-turns g c =
     let number = c.args.number in
     let next = c.number_at-next.result in
     let turn : Turn = record { from = number; to = next } in
-    noted walk.plain.now walk.ends walk.endings.now c.args.turns.now c.note_turn.new.turns (number % 16) turn c.requires.turns c.note_turn.ensures.here c.note_turn.ensures.others
+    noted walk.plain.now walk.ends walk.endings.now c.args.turns.now c.note_turn.new.turns (number % 16) turn c.requires.turns c.note_turn.ensures.at_key c.note_turn.ensures.others
     (λ low. (c.number_at-next.ensures (λ (is : next ≡ no_number). omega (arith, is, c.if-next-ge-AT_REST.false)), omega (arith, c.if-next-ge-AT_REST.false), c.end_all.ensures c.if-end_all.true))
 
 pub returns-then-end_all-2-clause-over : goal.returns-then-end_all-2-clause-over

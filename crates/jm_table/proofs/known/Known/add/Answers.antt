@@ -4,8 +4,8 @@ use Rattle.std.proofs.lemmas.List.{get_or-map}
 use Rattle.jm_table.proofs.BucketLemmas.{written_here, written_elsewhere}
 use Rattle.jm_table.proofs.known.Known.add.Goals as goal
 
-pub returns-clause-here : goal.returns-clause-here
-returns-clause-here c =
+pub returns-clause-at_key : goal.returns-clause-at_key
+returns-clause-at_key c =
     let buckets = c.self.inside.buckets.items in
     let at = c.args.key % 1024 in
     let lt : at < length buckets = omega (arith, c.self.invariant) in

@@ -8,5 +8,5 @@ returns-clause-member g c = λ other. rw (← c.self.view_is) (number_is_added c
 pub returns-clause-longer : goal.returns-clause-longer
 returns-clause-longer g c = rw (← c.self.view_is) (number_is_more c.self.inside.words c.args.number (rw c.self.told c.requires))
 
-pub returns-clause-few : goal.returns-clause-few
-returns-clause-few g c = rw (length-set, c.self.told) at (few_numbers (with_number c.self.inside.words c.args.number))
+pub returns-clause-bounded : goal.returns-clause-bounded
+returns-clause-bounded g c = rw (length-set, c.self.told) at (few_numbers (with_number c.self.inside.words c.args.number))

@@ -1,8 +1,8 @@
 use Rattle.jm_table.proofs.QuotientLemmas.{same_groups, is_reduced, is_reachable}
 use Rattle.jm_table.proofs.table.Table.minimise.Goals as goal
 
-pub returns-clause-same : goal.returns-clause-same
-returns-clause-same c =
+pub returns-clause-groups : goal.returns-clause-groups
+returns-clause-groups c =
     let partition = c.in_ok-partition.partition in
     let made = c.in_ok-partition.ensures in
     same_groups c.args.self partition.classes.items partition.firsts.items c.in_ok-minimal.minimal made.table made.classes.partition c.in_ok-minimal.ensures.quotient made.agrees made.stable

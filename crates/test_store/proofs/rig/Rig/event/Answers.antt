@@ -21,8 +21,8 @@ fire-requires-clause-event g c =
     subst (λ (d : g.row.M-Definition.Denot). IsLiveEvent (g.M.Monitor.meaning d) c.args.self.now.1 c.args.letter.0 c.args.binding.now) rules
     (subst (λ (dead : List Bool). IsLiveEvent m dead c.args.letter.0 c.args.binding.now) objects live)
 
-pub fire-requires-clause-there : goal.fire-requires-clause-there
-fire-requires-clause-there g c =
+pub fire-requires-clause-in_range : goal.fire-requires-clause-in_range
+fire-requires-clause-in_range g c =
     let Seen = g.row.M-Definition.Denot × List Bool × Contents g.row.M-State.Denot in
     let objects : c.self.inside.objects ≡ c.args.self.now.1 = ap (λ (v : Seen). v.1) c.self.view_is in
     λ o at. subst (λ (dead : List Bool). o < length dead) objects (c.all_live.ensures c.if-not-all_live.false at.0 o at.1).0

@@ -17,7 +17,7 @@ plan-requires g c =
       fits = c.self.invariant.fits.fits;
       event = subst (λ (d : g.row.M-Definition.Denot). IsLiveEvent (g.M.Monitor.meaning d) c.self.inside.objects e b) (sym rules)
           (subst (λ (dead : List Bool). IsLiveEvent (g.M.Monitor.meaning c.args.self.now.0) dead e b) (sym objects) c.requires.event);
-      there = subst (λ (dead : List Bool). AreBelow (length dead) b) (sym objects) c.requires.there;
+      there = subst (λ (dead : List Bool). AreBelow (length dead) b) (sym objects) c.requires.in_range;
     }
 
 pub invariant_of-self : goal.invariant_of-self
@@ -30,7 +30,7 @@ invariant_of-self-2 g c =
     let Seen = g.row.M-Definition.Denot × List Bool × Contents g.row.M-State.Denot in
     let dead = c.self.inside.objects in
     let objects : dead ≡ c.args.self.now.1 = ap (λ (v : Seen). v.1) c.self.view_is in
-    let there = subst (λ (d : List Bool). AreBelow (length d) c.args.binding.now) (sym objects) c.requires.there in
+    let there = subst (λ (d : List Bool). AreBelow (length d) c.args.binding.now) (sym objects) c.requires.in_range in
     let plans = c.in_ok-plan.ensures.plans in
     let done = c.commit-answer.ensures in
     record {
