@@ -13,4 +13,4 @@ returns c =
     let order = c.sort_unstable_by.ensures.sorted (λ f g. is_lt (firing_cmp f g)) (ranks_by firing_cmp_total (λ (f : Firing). f)) (answers_always _ _ _ (λ f a r h k. search rules)) in
     let once = dedup_same _ (eq_by_cmp firing_cmp) _ (λ x y b f' x' y' k. search rules) _ _ c.dedup_by.ensures.filtered in
     let all = ordered_firings _ _ _ c.sort_unstable_by.ensures.permutation order once in
-    record { increasing = all.increasing; same = all.same }
+    record { increasing = all.increasing; members = all.same }

@@ -12,7 +12,7 @@ loop-position-preserved c =
       kept = λ k there. added.kept k (inv.kept k there);
       all = λ k pair there at. elim (taken_cases c.args.positions.now c.loop-position.position-index k c.loop-position-test.true there) [
         | inl before ↦ added.kept pair.slot (inv.all k pair before at)
-        | inr here ↦ added.here pair (subst (λ (n : ℕ). pair_at c.args.entries.now n ≡ Some pair) (sym here) at)
+        | inr here ↦ added.at_key pair (subst (λ (n : ℕ). pair_at c.args.entries.now n ≡ Some pair) (sym here) at)
       ];
       room = added.room ∙ inv.room;
     }

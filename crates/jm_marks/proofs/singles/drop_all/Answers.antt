@@ -35,7 +35,7 @@ loop-index-preserved c =
             size = now.size ∙ inv.size;
             words = now.words ∙ inv.words;
             done = λ o low. elim (cases_eq (o / 64) c.loop-index.index) [
-              | inl here ↦ dropped_since _ _ _ _ o (inv.rest o (omega (arith, here))) (now.here o here)
+              | inl here ↦ dropped_since _ _ _ _ o (inv.rest o (omega (arith, here))) (now.dropped o here)
               | inr other ↦ now.elsewhere o other ∙ inv.done o (omega (arith, low, other))
             ];
             rest = λ o more. now.elsewhere o (λ e. absurd (omega (arith, e, more))) ∙ inv.rest o (omega (arith, more));

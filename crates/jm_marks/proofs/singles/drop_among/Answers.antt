@@ -44,7 +44,7 @@ loop-left-preserved c =
             gone = now.gone;
             size = now.size ∙ inv.size;
             words = now.words ∙ inv.words;
-            here = λ k few. underway_cleared _ _ _ _ _ _ _ k low few (sym c.is_gone.ensures ∙ w.if-is_gone.true) now.here now.elsewhere (inv.here k few);
+            here = λ k few. underway_cleared _ _ _ _ _ _ _ k low few (sym c.is_gone.ensures ∙ w.if-is_gone.true) now.at_key now.elsewhere (inv.here k few);
             elsewhere = λ o far. now.elsewhere o (λ e. far (omega (arith, e, low))) ∙ inv.elsewhere o far;
           }
       | else-is_gone w ↦

@@ -34,7 +34,7 @@ loop-shift-preserved g c =
     let x = get_or c.args.shifts.now i none in
     record {
       moved = shifted_more (g.M.Monitor.HasNumber c.args.rules.now) c.args.shifts.now i x (monitors_of c.args.slots.now) (monitors_of c.loop-shift.slots) (monitors_of c.renumber.new.slots)
-          c.loop-shift-test.true (get_or_default c.args.shifts.now i none x c.loop-shift-test.true) c.requires.apart inv.moved at.here at.others (alike_size c.loop-shift.slots c.renumber.new.slots at.alike);
+          c.loop-shift-test.true (get_or_default c.args.shifts.now i none x c.loop-shift-test.true) c.requires.apart inv.moved at.at_key at.others (alike_size c.loop-shift.slots c.renumber.new.slots at.alike);
       alike = alike_next c.args.slots.now c.loop-shift.slots c.renumber.new.slots inv.alike at.alike;
     }
 

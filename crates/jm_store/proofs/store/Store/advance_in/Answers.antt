@@ -28,13 +28,13 @@ returns-in-Some-above-clause-advances g c =
     let (base, at) = reached_one b old slot only in
     let Moved : Done → Type 0 = λ (done : Done). IsSlotDone m Stands c.args.asked.now.call.now.letter.0 c.args.asked.now.call.now.objects.now slot old new done in
     record {
-      stored = if_none result (new ≡ old) (new ≡ old) (new ≡ old) (stored_of new ≡ stored_of old) (λ same x y. ap (λ (s : Contents g.row.M-State.Denot). stored_of s) same) did.same did.same did.same;
-      unmarked = if_none result (new ≡ old) (new ≡ old) (new ≡ old) (new.marks ≡ old.marks) (λ same x y. ap (λ (s : Contents g.row.M-State.Denot). s.marks) same) did.same did.same did.same;
+      stored = if_none result (new ≡ old) (new ≡ old) (new ≡ old) (stored_of new ≡ stored_of old) (λ same x y. ap (λ (s : Contents g.row.M-State.Denot). stored_of s) same) did.unchanged did.unchanged did.unchanged;
+      unmarked = if_none result (new ≡ old) (new ≡ old) (new ≡ old) (new.marks ≡ old.marks) (λ same x y. ap (λ (s : Contents g.row.M-State.Denot). s.marks) same) did.unchanged did.unchanged did.unchanged;
       keeps = if_none result (new ≡ old) (new ≡ old) (new ≡ old) ((trace : List ParametricEvent) → IsStoreAfter m Stands trace c.args.asked.now.call.now.objects.now old → IsStoreAfter m Stands trace c.args.asked.now.call.now.objects.now new)
-          (λ same x y trace holds. subst (λ (s : Contents g.row.M-State.Denot). IsStoreAfter m Stands trace c.args.asked.now.call.now.objects.now s) (sym same) holds) did.same did.same did.same;
+          (λ same x y trace holds. subst (λ (s : Contents g.row.M-State.Denot). IsStoreAfter m Stands trace c.args.asked.now.call.now.objects.now s) (sym same) holds) did.unchanged did.unchanged did.unchanged;
       fits = did.stays.fits c.args.asked.now.call.now.objects.now c.requires.can.fits;
       spares = either_way result (IsSpared m Stands old → IsSpared m Stands new)
-          (if_none result (new ≡ old) (new ≡ old) (new ≡ old) (IsSpared m Stands old → IsSpared m Stands new) (λ same x y spared. subst (λ (s : Contents g.row.M-State.Denot). IsSpared m Stands s) (sym same) spared) did.same did.same did.same)
+          (if_none result (new ≡ old) (new ≡ old) (new ≡ old) (IsSpared m Stands old → IsSpared m Stands new) (λ same x y spared. subst (λ (s : Contents g.row.M-State.Denot). IsSpared m Stands s) (sym same) spared) did.unchanged did.unchanged did.unchanged)
           (option_map result (Unit {0}) Moved (λ (done : Done). IsSpared m Stands old → IsSpared m Stands new)
           (λ done h. one_spared m Stands c.args.asked.now.call.now.letter.0 b c.args.asked.now.call.now.objects.now old new slot base done.answer only at known (h.moved base at) c.requires.can.fits.index.reached) did.done);
       closed = did.stays.closed;

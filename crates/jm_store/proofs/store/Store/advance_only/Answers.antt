@@ -66,14 +66,14 @@ returns-in_ok-room_for-in-Some-clause-advances g c =
     let Kept = KeepsContents old new in
     let Did : Done → Type 0 = λ (done : Done). IsStepDone m Stands b step old new done in
     record {
-      stored = none_map result Kept (stored_of new ≡ stored_of old) (λ kept. kept.stored) t.same;
-      unmarked = none_map result Kept (new.marks ≡ old.marks) (λ kept. kept.marks) t.same;
+      stored = none_map result Kept (stored_of new ≡ stored_of old) (λ kept. kept.stored) t.unchanged;
+      unmarked = none_map result Kept (new.marks ≡ old.marks) (λ kept. kept.marks) t.unchanged;
       keeps = none_map result Kept ((trace : List ParametricEvent) → IsStoreAfter m Stands trace dead old → IsStoreAfter m Stands trace dead new)
-          (λ kept. step_kept m Stands letter b dead c.args.asked.now.known old new step [] c.requires.known.0 read c.requires.can.fits c.requires.can.there kept.stored kept.marks kept.ending t.fits.index) t.same;
+          (λ kept. step_kept m Stands letter b dead c.args.asked.now.known old new step [] c.requires.known.0 read c.requires.can.fits c.requires.can.there kept.stored kept.marks kept.ending t.fits.index) t.unchanged;
       fits = t.fits.fits dead c.requires.can.fits c.requires.can.there mine;
       spares = either_way result (IsSpared m Stands old → IsSpared m Stands new)
           (none_map result Kept (IsSpared m Stands old → IsSpared m Stands new)
-          (λ kept. step_still m Stands letter b dead c.args.asked.now.known old new step [] c.requires.known.0 read c.requires.can.fits c.requires.can.there kept.stored t.fits.index) t.same)
+          (λ kept. step_still m Stands letter b dead c.args.asked.now.known old new step [] c.requires.known.0 read c.requires.can.fits c.requires.can.there kept.stored t.fits.index) t.unchanged)
           (some_map result Did (λ (done : Done). IsSpared m Stands old → IsSpared m Stands new)
           (λ done did. step_spared m Stands letter b dead c.args.asked.now.known old new step done.answer c.requires.known.0 read c.requires.can.fits c.requires.can.there did.taken) t.done);
       closed = t.closed;
@@ -102,10 +102,10 @@ returns-in-None-clause-advances g c =
     let t = c.take_none.ensures in
     let result = c.take_none.result in
     record {
-      stored = none_map result (new ≡ old) (stored_of new ≡ stored_of old) (λ same. ap (λ (s : Contents g.row.M-State.Denot). stored_of s) same) t.same;
-      unmarked = none_map result (new ≡ old) (new.marks ≡ old.marks) (λ same. ap (λ (s : Contents g.row.M-State.Denot). s.marks) same) t.same;
+      stored = none_map result (new ≡ old) (stored_of new ≡ stored_of old) (λ same. ap (λ (s : Contents g.row.M-State.Denot). stored_of s) same) t.unchanged;
+      unmarked = none_map result (new ≡ old) (new.marks ≡ old.marks) (λ same. ap (λ (s : Contents g.row.M-State.Denot). s.marks) same) t.unchanged;
       keeps = none_map result (new ≡ old) ((trace : List ParametricEvent) → IsStoreAfter m Stands trace dead old → IsStoreAfter m Stands trace dead new)
-          (λ same trace holds. subst (λ (s : Contents g.row.M-State.Denot). IsStoreAfter m Stands trace dead s) (sym same) holds) t.same;
+          (λ same trace holds. subst (λ (s : Contents g.row.M-State.Denot). IsStoreAfter m Stands trace dead s) (sym same) holds) t.unchanged;
       fits = t.fits dead c.requires.can.fits c.requires.can.there;
       spares = λ spared. rw (t.kept.monitors, t.kept.index) spared;
       closed = t.closed;

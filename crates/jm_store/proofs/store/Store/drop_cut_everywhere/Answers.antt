@@ -21,13 +21,13 @@ loop-slot-preserved g c =
     let inv = c.loop-slot.invariant in
     let done = c.drop_cut.ensures in
     record {
-      down = down_more m Stands dead c.args.self.now c.loop-slot.self c.drop_cut.new.self _ inv.down done.monitors done.here done.closed done.length done.marks done.ending done.fits;
+      down = down_more m Stands dead c.args.self.now c.loop-slot.self c.drop_cut.new.self _ inv.down done.monitors done.swept done.closed done.length done.marks done.ending done.fits;
       all = λ k low. elim (cases_lt k c.loop-slot.slot) [
-        | inl before ↦ swept_still m Stands dead c.args.self.now c.loop-slot.self c.drop_cut.new.self _ inv.down done.monitors done.here k (inv.all k before)
+        | inl before ↦ swept_still m Stands dead c.args.self.now c.loop-slot.self c.drop_cut.new.self _ inv.down done.monitors done.swept k (inv.all k before)
         | inr past ↦
             let here : c.loop-slot.slot ≡ k = omega (arith, past, low) in
             subst (λ (n : ℕ). IsSwept m Stands dead (monitor_at c.args.self.now.monitors n) (monitor_at c.drop_cut.new.self.monitors n)) here
-            (swept_here m Stands dead c.args.self.now c.loop-slot.self c.drop_cut.new.self _ inv.down done.monitors done.here)
+            (swept_here m Stands dead c.args.self.now c.loop-slot.self c.drop_cut.new.self _ inv.down done.monitors done.swept)
       ];
     }
 

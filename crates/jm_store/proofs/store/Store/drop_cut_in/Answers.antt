@@ -21,12 +21,12 @@ loop-slot-preserved g c =
     let inv = c.loop-slot.invariant in
     let done = c.drop_cut.ensures in
     record {
-      down = down_more m Stands dead c.args.self.now c.loop-slot.self c.drop_cut.new.self _ inv.down done.monitors done.here done.closed done.length done.marks done.ending done.fits;
+      down = down_more m Stands dead c.args.self.now c.loop-slot.self c.drop_cut.new.self _ inv.down done.monitors done.swept done.closed done.length done.marks done.ending done.fits;
       there = λ k there. elim (taken_cases c.args.slots.now c.loop-slot.slot-index k c.loop-slot-test.true there) [
-        | inl before ↦ swept_still m Stands dead c.args.self.now c.loop-slot.self c.drop_cut.new.self _ inv.down done.monitors done.here k (inv.there k before)
+        | inl before ↦ swept_still m Stands dead c.args.self.now c.loop-slot.self c.drop_cut.new.self _ inv.down done.monitors done.swept k (inv.there k before)
         | inr here ↦
             subst (λ (n : ℕ). IsSwept m Stands dead (monitor_at c.args.self.now.monitors n) (monitor_at c.drop_cut.new.self.monitors n)) here
-            (swept_here m Stands dead c.args.self.now c.loop-slot.self c.drop_cut.new.self _ inv.down done.monitors done.here)
+            (swept_here m Stands dead c.args.self.now c.loop-slot.self c.drop_cut.new.self _ inv.down done.monitors done.swept)
       ];
     }
 

@@ -58,8 +58,8 @@ pub returns-in_err-place_next-clause-pending : goal.returns-in_err-place_next-cl
 returns-in_err-place_next-clause-pending g c =
     let failed = c.in_err-place_next.ensures in
     record {
-      leads = rw (failed.none, failed.same) c.loop-step.invariant.placed.leads;
-      filled = rw (failed.none, failed.same)
+      leads = rw (failed.none, failed.unchanged) c.loop-step.invariant.placed.leads;
+      filled = rw (failed.none, failed.unchanged)
           (λ pair there. elim (c.loop-step.invariant.placed.filled pair there) [
             | inl full ↦ inl (filled_same c.loop-step.self c.place_next.new.self pair (λ k. sym (failed.kept.monitors k)) full)
             | inr planned ↦ inr planned
