@@ -13,7 +13,7 @@ use crate::stack::Stack;
 use crate::tree::{Ere, Operator, Tree};
 use jm_events::EventTable;
 use jm_model::SpecError;
-use jm_reading::{event_names, letter_of};
+use jm_reading::{check_event_names, letter_of};
 use std::alloc::Global;
 
 fn atom_of(bytes: &[u8], table: &EventTable, atom: Atom) -> Result<Ere, SpecError>
@@ -126,7 +126,7 @@ pub(crate) fn expression_of(
     ensures checked { Checks result (fault_of_nodes bytes.now table.now nodes.now) }
 {
     check_nodes(nodes)?;
-    event_names::<Words>(table)?;
+    check_event_names::<Words>(table)?;
     let mut stack = Stack::new(alloc);
     apply_all(alloc, bytes, table, &mut stack, nodes)?;
     match stack.pop() {

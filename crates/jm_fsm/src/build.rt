@@ -12,7 +12,7 @@ use crate::formula::{Part, TransitionText};
 use crate::machine::{Alias, Destination, Draft, Fsm, State, Transition};
 use jm_events::{EventTable, Names};
 use jm_model::{SpecError, SpecFault};
-use jm_reading::{add_name, event_names, letter_of, name_of};
+use jm_reading::{add_name, check_event_names, letter_of, name_of};
 use jm_text::Token;
 use std::alloc::Global;
 
@@ -213,7 +213,7 @@ pub fn machine_of(
     ensures checked { Checks result (first_fault bytes.now table.now parts.now) }
 {
     faults::check_aliases(parts)?;
-    event_names::<Words>(table)?;
+    check_event_names::<Words>(table)?;
     faults::check_part_names(bytes, parts)?;
     faults::check_duplicate_states(alloc, bytes, parts)?;
     faults::check_duplicate_transitions(alloc, bytes, parts)?;

@@ -9,7 +9,7 @@ use crate::formula::Part;
 use crate::grammar::{Grammar, GrammarSymbol, Production};
 use jm_events::{EventTable, Names};
 use jm_model::{SpecError, SpecFault};
-use jm_reading::{Items, event_names, name_of};
+use jm_reading::{Items, check_event_names, name_of};
 use jm_text::Token;
 use std::alloc::Global;
 
@@ -182,7 +182,7 @@ pub fn grammar_of(
     faults::check_nonterminals(bytes, suffix, parts, &known)?;
     faults::check_productions(parts)?;
     faults::check_symbols(bytes, parts)?;
-    event_names::<Words>(table)?;
+    check_event_names::<Words>(table)?;
     faults::check_left_names(bytes, parts)?;
     faults::check_clashes(bytes, table, parts)?;
     known_grammar(alloc, bytes, table, &known, parts)

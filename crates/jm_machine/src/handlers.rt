@@ -202,25 +202,25 @@ fn check_bindings(
     ensures { Checks result (binding_fault bytes.now full_binding tokens.now handlers.now) }
 {
     if full_binding {
-        without_reset(bytes, tokens, handlers)
+        check_resets(bytes, tokens, handlers)
     } else {
         Ok(())
     }
 }
 
 /// The first word `__RESET` of these blocks.
-fn without_reset(bytes: &[u8], tokens: &[Token], handlers: &[HandlerText]) -> Result<(), SpecError>
+fn check_resets(bytes: &[u8], tokens: &[Token], handlers: &[HandlerText]) -> Result<(), SpecError>
     requires { LieWithin bytes.now tokens.now }
     ensures { Checks result (reset_fault bytes.now tokens.now handlers.now) }
 {
     for handler in handlers {
-        block_without_reset(bytes, range_of(tokens, handler.first, handler.last))?;
+        check_block_resets(bytes, range_of(tokens, handler.first, handler.last))?;
     }
     Ok(())
 }
 
 /// The first word `__RESET` of a block.
-fn block_without_reset(bytes: &[u8], block: &[Token]) -> Result<(), SpecError>
+fn check_block_resets(bytes: &[u8], block: &[Token]) -> Result<(), SpecError>
     requires { LieWithin bytes.now block.now }
     ensures { Checks result (reset_in bytes.now block.now) }
 {

@@ -11,7 +11,7 @@ use crate::formula::Node;
 use crate::past::Past;
 use jm_events::EventTable;
 use jm_model::{Counted, Letter, SpecError, SpecFault};
-use jm_reading::{Items, event_names, letter_of};
+use jm_reading::{Items, check_event_names, letter_of};
 use jm_text::Token;
 use std::alloc::Global;
 
@@ -64,7 +64,7 @@ pub fn past_of(
         let what = Counted::Subformulas;
         return Err(SpecError::Bad(SpecFault::TooMany { what }));
     }
-    event_names::<Words>(table)?;
+    check_event_names::<Words>(table)?;
     let said = nodes_of(alloc, bytes, table, nodes)?;
     Ok(Past::new(said.into_vec()))
 }

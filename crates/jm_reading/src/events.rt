@@ -22,7 +22,7 @@ pub trait GrammarWords {
 }
 
 /// No event is named by a word of the grammar.
-pub fn event_names<W: GrammarWords>(table: &EventTable) -> Result<(), SpecError>
+pub fn check_event_names<W: GrammarWords>(table: &EventTable) -> Result<(), SpecError>
     ensures checked { Checks result (reserved_event_fault W.reserved table.now.events) }
     ensures bounded { length table.now.events ≤ 32 }
 {

@@ -16,7 +16,7 @@ mod nesting;
 mod ranges;
 
 pub use cursor::Cursor;
-pub use events::{GrammarWords, event_names, letter_of};
+pub use events::{GrammarWords, check_event_names, letter_of};
 pub use gathered::{Gathered, gather};
 pub use items::Items;
 pub use names::{add_name, name_of};

@@ -65,9 +65,9 @@ pub fn tree_of(alloc: Global, bytes: &[u8], frame: Frame) -> Result<SpecTree, Sp
         events,
         properties,
     } = frame;
-    known_modifiers(modifiers.as_slice())?;
-    known_advice(events.as_slice())?;
-    few_properties(properties.as_slice())?;
+    check_modifiers(modifiers.as_slice())?;
+    check_advice(events.as_slice())?;
+    check_property_count(properties.as_slice())?;
     let properties = known_properties(alloc, bytes, properties.as_slice())?;
     let table = table_of(alloc, bytes, params.as_slice(), events.as_slice())?;
     Ok(SpecTree {
@@ -79,7 +79,7 @@ pub fn tree_of(alloc: Global, bytes: &[u8], frame: Frame) -> Result<SpecTree, Sp
     })
 }
 
-fn known_modifiers(modifiers: &[Modifier]) -> Result<(), SpecError>
+fn check_modifiers(modifiers: &[Modifier]) -> Result<(), SpecError>
     ensures { Checks result (modifier_fault modifiers.now) }
 {
     for modifier in modifiers {
@@ -120,7 +120,7 @@ fn first_suffix(modifiers: &[Modifier]) -> Option<u32>
     None
 }
 
-fn known_advice(events: &[Mention]) -> Result<(), SpecError>
+fn check_advice(events: &[Mention]) -> Result<(), SpecError>
     ensures { Checks result (advice_fault events.now) }
 {
     for event in events {
@@ -132,7 +132,7 @@ fn known_advice(events: &[Mention]) -> Result<(), SpecError>
 }
 
 /// 1 to 16 properties.
-fn few_properties(properties: &[Property]) -> Result<(), SpecError>
+fn check_property_count(properties: &[Property]) -> Result<(), SpecError>
     ensures checked { Checks result (property_fault properties.now) }
     ensures bounded { IfOk result (λ _. (0 < length properties.now) × (length properties.now ≤ 16)) }
 {

@@ -36,17 +36,17 @@ returns-in_err-check_aliases-clause-checked c =
     let p = err_from_is_err_and c.from_residual.result c.from_residual.ensures.1 in
     rw (p.1, p.2) (refuses_first (aliases_fault c.args.parts.now) _ c.in_err-check_aliases.field-0.0 c.in_err-check_aliases.ensures)
 
-pub returns-in_err-event_names-clause-ok : goal.returns-in_err-event_names-clause-ok
-returns-in_err-event_names-clause-ok c =
-    let p = err_from_is_err_and c.from_residual-in_err-event_names.result c.from_residual-in_err-event_names.ensures.1 in
+pub returns-in_err-check_event_names-clause-ok : goal.returns-in_err-check_event_names-clause-ok
+returns-in_err-check_event_names-clause-ok c =
+    let p = err_from_is_err_and c.from_residual-in_err-check_event_names.result c.from_residual-in_err-check_event_names.ensures.1 in
     rw p.1 tt
 
-pub returns-in_err-event_names-clause-checked : goal.returns-in_err-event_names-clause-checked
+pub returns-in_err-check_event_names-clause-checked : goal.returns-in_err-check_event_names-clause-checked
 unfolding first_fault
-returns-in_err-event_names-clause-checked c =
-    let p = err_from_is_err_and c.from_residual-in_err-event_names.result c.from_residual-in_err-event_names.ensures.1 in
+returns-in_err-check_event_names-clause-checked c =
+    let p = err_from_is_err_and c.from_residual-in_err-check_event_names.result c.from_residual-in_err-check_event_names.ensures.1 in
     rw (p.1, p.2, c.in_ok-check_aliases.ensures)
-    (refuses_first (reserved_event_fault is_grammar_word c.args.table.now.events) _ c.in_err-event_names.field-0.0 c.in_err-event_names.ensures.checked)
+    (refuses_first (reserved_event_fault is_grammar_word c.args.table.now.events) _ c.in_err-check_event_names.field-0.0 c.in_err-check_event_names.ensures.checked)
 
 pub returns-in_err-check_part_names-clause-ok : goal.returns-in_err-check_part_names-clause-ok
 returns-in_err-check_part_names-clause-ok c =
@@ -57,7 +57,7 @@ pub returns-in_err-check_part_names-clause-checked : goal.returns-in_err-check_p
 unfolding first_fault
 returns-in_err-check_part_names-clause-checked c =
     let p = err_from_is_err_and c.from_residual-in_err-check_part_names.result c.from_residual-in_err-check_part_names.ensures.1 in
-    rw (p.1, p.2, c.in_ok-check_aliases.ensures, c.in_ok-event_names.ensures.checked)
+    rw (p.1, p.2, c.in_ok-check_aliases.ensures, c.in_ok-check_event_names.ensures.checked)
     (refuses_first (part_name_fault c.args.bytes.now c.args.parts.now) _ c.in_err-check_part_names.field-0.0 c.in_err-check_part_names.ensures)
 
 pub returns-in_err-check_duplicate_states-clause-ok : goal.returns-in_err-check_duplicate_states-clause-ok
@@ -69,7 +69,7 @@ pub returns-in_err-check_duplicate_states-clause-checked : goal.returns-in_err-c
 unfolding first_fault
 returns-in_err-check_duplicate_states-clause-checked c =
     let p = err_from_is_err_and c.from_residual-in_err-check_duplicate_states.result c.from_residual-in_err-check_duplicate_states.ensures.1 in
-    rw (p.1, p.2, c.in_ok-check_aliases.ensures, c.in_ok-event_names.ensures.checked, c.in_ok-check_part_names.ensures)
+    rw (p.1, p.2, c.in_ok-check_aliases.ensures, c.in_ok-check_event_names.ensures.checked, c.in_ok-check_part_names.ensures)
     (refuses_first (duplicate_state_fault c.args.bytes.now [] c.args.parts.now) _ c.in_err-check_duplicate_states.field-0.0 c.in_err-check_duplicate_states.ensures)
 
 pub returns-in_err-check_duplicate_transitions-clause-ok : goal.returns-in_err-check_duplicate_transitions-clause-ok
@@ -86,7 +86,7 @@ pub returns-in_err-check_states-clause-checked : goal.returns-in_err-check_state
 unfolding first_fault
 returns-in_err-check_states-clause-checked c =
     let p = err_from_is_err_and c.from_residual-in_err-check_states.result c.from_residual-in_err-check_states.ensures.1 in
-    rw (p.1, p.2, c.in_ok-check_aliases.ensures, c.in_ok-event_names.ensures.checked, c.in_ok-check_part_names.ensures, c.in_ok-check_duplicate_states.ensures, c.in_ok-check_duplicate_transitions.ensures)
+    rw (p.1, p.2, c.in_ok-check_aliases.ensures, c.in_ok-check_event_names.ensures.checked, c.in_ok-check_part_names.ensures, c.in_ok-check_duplicate_states.ensures, c.in_ok-check_duplicate_transitions.ensures)
     (refuses_first (states_fault c.args.parts.now) _ c.in_err-check_states.field-0.0 c.in_err-check_states.ensures)
 
 pub known_machine-requires-clause-some : goal.known_machine-requires-clause-some
@@ -110,5 +110,5 @@ returns-clause-ok c = is_made (machine_of c.args.bytes.now c.args.table.now c.ar
 pub returns-clause-checked : goal.returns-clause-checked
 unfolding first_fault
 returns-clause-checked c =
-    rw (c.in_ok-check_aliases.ensures, c.in_ok-event_names.ensures.checked, c.in_ok-check_part_names.ensures, c.in_ok-check_duplicate_states.ensures, c.in_ok-check_duplicate_transitions.ensures, c.in_ok-check_states.ensures)
+    rw (c.in_ok-check_aliases.ensures, c.in_ok-check_event_names.ensures.checked, c.in_ok-check_part_names.ensures, c.in_ok-check_duplicate_states.ensures, c.in_ok-check_duplicate_transitions.ensures, c.in_ok-check_states.ensures)
     (checks_made (machine_of c.args.bytes.now c.args.table.now c.args.parts.now) c.known_machine.result c.known_machine.ensures)

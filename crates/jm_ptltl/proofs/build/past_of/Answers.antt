@@ -17,10 +17,10 @@ few_nodes nodes f e few = omega (arith, ap (λ l. length l) e, few)
 pub returns-then-nodes-gt-MAX_SUBFORMULAS-clause-checked : goal.returns-then-nodes-gt-MAX_SUBFORMULAS-clause-checked
 returns-then-nodes-gt-MAX_SUBFORMULAS-clause-checked c = λ f e. too_many c.args.bytes.now c.args.table.now f (omega (arith, ap (λ (l : List (Node Token)). length l) e, c.if-nodes-gt-MAX_SUBFORMULAS.true))
 
-pub returns-in_err-event_names-clause-checked : goal.returns-in_err-event_names-clause-checked
-returns-in_err-event_names-clause-checked c = λ f e.
+pub returns-in_err-check_event_names-clause-checked : goal.returns-in_err-check_event_names-clause-checked
+returns-in_err-check_event_names-clause-checked c = λ f e.
     let p = err_from_is_err_and c.from_residual.result c.from_residual.ensures.1 in
-    rw (p.1, p.2) (event_refused c.args.bytes.now c.args.table.now f c.in_err-event_names.field-0.0 (few_nodes c.args.nodes.now f e c.if-nodes-gt-MAX_SUBFORMULAS.false) c.in_err-event_names.ensures.checked)
+    rw (p.1, p.2) (event_refused c.args.bytes.now c.args.table.now f c.in_err-check_event_names.field-0.0 (few_nodes c.args.nodes.now f e c.if-nodes-gt-MAX_SUBFORMULAS.false) c.in_err-check_event_names.ensures.checked)
 
 pub returns-in_err-said-clause-checked : goal.returns-in_err-said-clause-checked
 returns-in_err-said-clause-checked c = λ f e.
@@ -29,7 +29,7 @@ returns-in_err-said-clause-checked c = λ f e.
     let error = c.in_err-said.field-0.0 in
     let p = err_from_is_err_and c.from_residual-in_err-said.result c.from_residual-in_err-said.ensures.1 in
     let said = subst (λ (l : List (Node Token)). Answers {Y = List (Node Letter)} (Err error) (with_each (with_node bytes events) [] l)) e c.in_err-said.ensures in
-    rw (p.1, p.2) (name_refused bytes c.args.table.now f error (few_nodes c.args.nodes.now f e c.if-nodes-gt-MAX_SUBFORMULAS.false) c.in_ok-event_names.ensures.checked (said_refused bytes events f error said))
+    rw (p.1, p.2) (name_refused bytes c.args.table.now f error (few_nodes c.args.nodes.now f e c.if-nodes-gt-MAX_SUBFORMULAS.false) c.in_ok-check_event_names.ensures.checked (said_refused bytes events f error said))
 
 pub new-requires-clause-formula : goal.new-requires-clause-formula
 new-requires-clause-formula c =
@@ -61,4 +61,4 @@ returns-clause-checked c = λ f e.
     let bytes = c.args.bytes.now in
     let events = event_names c.args.table.now in
     let said = said_formula bytes events f c.in_ok-said.said (sym (ap (λ (l : List (Node Token)). with_each (with_node bytes events) [] l) e) ∙ c.in_ok-said.ensures) in
-    no_fault bytes c.args.table.now f said.0 (few_nodes c.args.nodes.now f e c.if-nodes-gt-MAX_SUBFORMULAS.false) c.in_ok-event_names.ensures.checked said.1
+    no_fault bytes c.args.table.now f said.0 (few_nodes c.args.nodes.now f e c.if-nodes-gt-MAX_SUBFORMULAS.false) c.in_ok-check_event_names.ensures.checked said.1
