@@ -1,5 +1,5 @@
 -- What the files of a command say, one after the other.
-use Rattle.std.specs.Prelude.{ℕ, ◌+◌, ◌≡◌, Bool, List, [], ◌∷◌, ◌++◌, length, Option, Some, None, option_map, if◌then◌else◌}
+use Rattle.std.specs.Prelude.{ℕ, ◌+◌, ◌≡◌, Bool, true, false, List, [], ◌∷◌, ◌++◌, length, Option, Some, None, option_map, if◌then◌else◌}
 use Rattle.jm_model.specs.Words.{Text}
 use Rattle.jm_model.specs.declared.fault.SpecFault.{SpecFault}
 use Rattle.jm_model.specs.declared.fault.SpecFault.TheVariants.{UnsupportedLogic, DuplicateSpec}
@@ -9,11 +9,18 @@ use Rattle.jm_script.specs.declared.script.ScriptLine.{ScriptLine}
 use Rattle.jm_script.specs.Catalogs.{spec_names}
 use Rattle.jm_sync.specs.declared.line.SyncLine.{SyncLine}
 use Rattle.jm_sync.specs.Cuts.{names_after, sync_lines_of}
+use Rattle.jm_inputs.specs.declared.library.Purpose.{Purpose}
+use Rattle.jm_inputs.specs.declared.library.Purpose.TheVariants.{Rules, Families}
 use Rattle.jm_inputs.specs.Sources.{FileContents, Source, Gives}
 use Rattle.jm_inputs.specs.Specifications.{Specification, IsSpecification, IsSpecFault}
 use Rattle.jm_inputs.specs.Scripts.{catalog_of, IsScriptFile}
 
 -- ---- specifications
+
+-- what is read for families asks for them
+abbrev pub asks_families : Purpose → Bool
+asks_families Rules = false
+asks_families Families = true
 
 -- where families are asked for, the first grammar, whose word stands in this line
 abbrev pub grammar_fault : Bool → Option ℕ → Option SpecFault

@@ -7,7 +7,7 @@ ghost use Rattle.jm_inputs.specs.Commands.{named, given_files, workload_specs, w
 ghost use Rattle.jm_inputs.specs.Causes.{CountsFailedReads, StopsInputs, StopsCommand};
 ghost use Rattle.jm_inputs.specs.Reading.{AreInputsOf};
 
-use crate::library::{Library, given_specifications, read_specifications};
+use crate::library::{Library, Purpose, given_specifications, read_specifications};
 use crate::scripts::{Scripts, Setting, given_scripts, read_scripts};
 use crate::status::Status;
 use jm_gen::{GenError, Workload, workload};
@@ -40,7 +40,7 @@ pub fn read_inputs<F: Folder>(
         (named (map string_bytes specs.now)) (named (map string_bytes scripts.now))) }
     ensures read_failed { CountsFailedReads result (F.faults files.old) (F.faults files.new) }
 {
-    let library = read_specifications(alloc, specs, setting.files, false, files)?;
+    let library = read_specifications(alloc, specs, setting.files, Purpose::Rules, files)?;
     let scripts = read_scripts(alloc, scripts, &library, setting, files)?;
     Ok(Inputs { library, scripts })
 }

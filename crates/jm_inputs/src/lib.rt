@@ -25,7 +25,7 @@ mod status;
 pub use files::load;
 pub use inputs::{Inputs, read_inputs, read_workload};
 pub use laws::one_reading;
-pub use library::{Library, read_specifications};
+pub use library::{Library, Purpose, read_specifications};
 pub use scripts::{Scripts, Setting, too_long};
 pub use specification::{Loaded, Titles};
 pub use status::{MOST_BYTES, Status};

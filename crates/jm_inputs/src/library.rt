@@ -8,7 +8,7 @@ ghost use Rattle.jm_inputs.specs.Commands.{named, given_files};
 ghost use Rattle.jm_inputs.specs.Sources.{FileContents, Named};
 ghost use Rattle.jm_inputs.specs.Specifications.{most_bytes};
 ghost use Rattle.jm_inputs.specs.Scripts.{catalog_of};
-ghost use Rattle.jm_inputs.specs.Inputs.{grammar_fault, IsRefusal};
+ghost use Rattle.jm_inputs.specs.Inputs.{asks_families, grammar_fault, IsRefusal};
 ghost use Rattle.jm_inputs.specs.Reading.{IsWhole, named_entry, listing, listed_in, specs_in, IsCatalogued, HasNext, HasNextFrom, IsLibraryOf};
 ghost use Rattle.jm_inputs.specs.Causes.{CountsFailedReads, IsNoSpec, IsNoSpecIn, StopsSpecs};
 
@@ -20,6 +20,15 @@ use jm_model::{SpecError, SpecFault};
 use jm_port::Folder;
 use jm_script::Catalog;
 use std::alloc::Global;
+
+/// What specifications are read for.
+#[derive(Clone, Copy)]
+pub enum Purpose {
+    /// For their rules, or for what they declare.
+    Rules,
+    /// For their coenable families, which a grammar doesn't have.
+    Families,
+}
 
 /// Specifications in order, and the catalog of them.
 #[derive(Drop)]
@@ -59,26 +68,28 @@ impl Library {
     }
 }
 
-/// Reads the specifications of these names, in order, whose files stand after a number of others. Where families are
-/// asked for, a grammar is refused.
+/// Reads the specifications of these names, in order, whose files stand after a number of others. Where they are
+/// read for families, a grammar is refused.
 pub fn read_specifications<F: Folder>(
     alloc: Global,
     names: &[String],
     before: u32,
-    families: bool,
+    purpose: Purpose,
     files: &mut F,
 ) -> Result<Library, Status>
     requires bounded { length names.now ≤ 16 }
     requires before { before ≤ 1 }
-    ensures read { IfOk result (IsLibraryOf (F.holds files.old) families (named (map string_bytes names.now))) }
-    ensures err { IfErr result (StopsSpecs (F.holds files.old) before families (named (map string_bytes names.now))) }
+    ensures read { IfOk result (IsLibraryOf (F.holds files.old) (asks_families purpose)
+        (named (map string_bytes names.now))) }
+    ensures err { IfErr result (StopsSpecs (F.holds files.old) before (asks_families purpose)
+        (named (map string_bytes names.now))) }
     ensures read_failed { CountsFailedReads result (F.faults files.old) (F.faults files.new) }
     ensures never_falls { F.faults files.old ≤ F.faults files.new }
     ensures unchanged { (other : List ℕ) → F.holds files.new other ≡ F.holds files.old other }
 {
     let mut library = Library::new(alloc);
     for name in names {
-        read_next(alloc, name.as_str(), before, families, files, &mut library)?;
+        read_next(alloc, name.as_str(), before, purpose, files, &mut library)?;
     }
     Ok(library)
 }
@@ -109,7 +120,7 @@ fn read_given(alloc: Global, bytes: &[u8], library: &mut Library) -> Result<(), 
     if bytes.len() > MOST_BYTES {
         return Err(too_long(number));
     }
-    read_bytes(alloc, bytes, number, false, library)
+    read_bytes(alloc, bytes, number, Purpose::Rules, library)
 }
 
 /// Reads the specification of this name, after those of the library, whose files stand after a number of others. After
@@ -118,15 +129,15 @@ fn read_next<F: Folder>(
     alloc: Global,
     name: &str,
     before: u32,
-    families: bool,
+    purpose: Purpose,
     files: &mut F,
     library: &mut Library,
 ) -> Result<(), Status>
     requires before { before ≤ 1 }
     requires bounded { length library.old.specs.items < 16 }
     requires catalogued { IsCatalogued library.old }
-    ensures read { OnOk result (HasNextFrom (F.holds files.old) (Named name.now) families library.old library.new) }
-    ensures err { IfErr result (IsNoSpec (F.holds files.old) families (specs_in library.old) before
+    ensures read { OnOk result (HasNextFrom (F.holds files.old) (Named name.now) (asks_families purpose) library.old library.new) }
+    ensures err { IfErr result (IsNoSpec (F.holds files.old) (asks_families purpose) (specs_in library.old) before
         (length library.old.specs.items) (Named name.now)) }
     ensures read_failed { CountsFailedReads result (F.faults files.old) (F.faults files.new) }
     ensures never_falls { F.faults files.old ≤ F.faults files.new }
@@ -134,7 +145,7 @@ fn read_next<F: Folder>(
 {
     let number = library.specs.len() as u32;
     let bytes = load(name, before + number, MOST_BYTES, too_long(number), files)?;
-    read_bytes(alloc, bytes.as_slice(), number, families, library)
+    read_bytes(alloc, bytes.as_slice(), number, purpose, library)
 }
 
 /// The end of a command whose specification of this number is too long.
@@ -153,16 +164,16 @@ fn read_bytes(
     alloc: Global,
     bytes: &[u8],
     number: u32,
-    families: bool,
+    purpose: Purpose,
     library: &mut Library,
 ) -> Result<(), Status>
     requires small { length bytes.now ≤ most_bytes }
     requires bounded { length library.old.specs.items < 16 }
     requires catalogued { IsCatalogued library.old }
-    ensures read { OnOk result (HasNext families bytes.now library.old library.new) }
-    ensures err { IfErr result (IsNoSpecIn families (specs_in library.old) number bytes.now) }
+    ensures read { OnOk result (HasNext (asks_families purpose) bytes.now library.old library.new) }
+    ensures err { IfErr result (IsNoSpecIn (asks_families purpose) (specs_in library.old) number bytes.now) }
 {
-    match admit(alloc, bytes, families, library) {
+    match admit(alloc, bytes, purpose, library) {
         Ok(()) => Ok(()),
         Err(SpecError::Bad(fault)) => {
             Err(Status::BadSpec {
@@ -178,15 +189,15 @@ fn read_bytes(
 fn admit(
     alloc: Global,
     bytes: &[u8],
-    families: bool,
+    purpose: Purpose,
     library: &mut Library,
 ) -> Result<(), SpecError>
     requires small { length bytes.now ≤ most_bytes }
     requires bounded { length library.old.specs.items < 16 }
     requires catalogued { IsCatalogued library.old }
-    ensures read { OnOk result (HasNext families bytes.now library.old library.new) }
+    ensures read { OnOk result (HasNext (asks_families purpose) bytes.now library.old library.new) }
     ensures fault { (fault : SpecFault) → result ≡ Err (SpecError.Bad fault)
-        → IsRefusal families (specs_in library.old) bytes.now fault }
+        → IsRefusal (asks_families purpose) (specs_in library.old) bytes.now fault }
 {
     let reading = read_specification(alloc, bytes)?;
     let Reading {
@@ -194,16 +205,19 @@ fn admit(
         table,
         loaded,
     } = reading;
-    check_families(families, &loaded.titles)?;
+    check_families(purpose, &loaded.titles)?;
     library.add(name, table, loaded)
 }
 
-/// Refuses the first grammar, where families are asked for: it has none.
-fn check_families(families: bool, titles: &Titles) -> Result<(), SpecError>
-    ensures { Checks result (grammar_fault families titles.now.grammar_line) }
+/// Refuses the first grammar where specifications are read for families: it has none.
+fn check_families(purpose: Purpose, titles: &Titles) -> Result<(), SpecError>
+    ensures { Checks result (grammar_fault (asks_families purpose) titles.now.grammar_line) }
 {
-    match titles.grammar_line {
-        Some(line) if families => Err(SpecError::Bad(SpecFault::UnsupportedLogic { line })),
-        _ => Ok(()),
+    match purpose {
+        Purpose::Rules => Ok(()),
+        Purpose::Families => match titles.grammar_line {
+            Some(line) => Err(SpecError::Bad(SpecFault::UnsupportedLogic { line })),
+            None => Ok(()),
+        },
     }
 }

@@ -15,7 +15,8 @@ use crate::run::{run, run_in_short};
 use crate::sweep::sweep;
 use jm_cli::Command;
 use jm_inputs::{
-    MOST_BYTES, Setting, Status, load, read_inputs, read_specifications, read_workload, too_long,
+    MOST_BYTES, Purpose, Setting, Status, load, read_inputs, read_specifications, read_workload,
+    too_long,
 };
 use jm_port::Folder;
 use jm_runner::Gate;
@@ -118,7 +119,7 @@ fn checked<F: Folder>(alloc: Global, specs: &[String], files: &mut F) -> Result<
     ensures carried_out { IsCarriedOut (F.holds files.old) (Check (map string_bytes specs.now)) result }
     ensures read_failed { CountsFailedReads result (F.faults files.old) (F.faults files.new) }
 {
-    let library = read_specifications(alloc, specs, 0, false, files)?;
+    let library = read_specifications(alloc, specs, 0, Purpose::Rules, files)?;
     let text = declared(alloc, &library.catalog, library.specs.as_slice())?;
     Ok(text)
 }
@@ -129,7 +130,7 @@ fn coenabled<F: Folder>(alloc: Global, specs: &[String], files: &mut F) -> Resul
     ensures carried_out { IsCarriedOut (F.holds files.old) (Coenable (map string_bytes specs.now)) result }
     ensures read_failed { CountsFailedReads result (F.faults files.old) (F.faults files.new) }
 {
-    let library = read_specifications(alloc, specs, 0, true, files)?;
+    let library = read_specifications(alloc, specs, 0, Purpose::Families, files)?;
     let text = families(alloc, &library.catalog, library.specs.as_slice())?;
     Ok(text)
 }
@@ -161,7 +162,7 @@ fn swept<R: Threads + Sync, F: Folder>(
         (Sweep (string_bytes spec.now) (string_bytes recording.now)) result }
     ensures read_failed { CountsFailedReads result (F.faults files.old) (F.faults files.new) }
 {
-    let library = read_specifications(alloc, slice::from_ref(spec), 0, false, files)?;
+    let library = read_specifications(alloc, slice::from_ref(spec), 0, Purpose::Rules, files)?;
     let bytes = load(recording.as_str(), 1, MOST_BYTES, too_long(0), files)?;
     sweep(rt, alloc, &library, bytes.as_slice())
 }
