@@ -136,7 +136,8 @@ fn read_next<F: Folder>(
     requires before { before ≤ 1 }
     requires bounded { length library.old.specs.items < 16 }
     requires catalogued { IsCatalogued library.old }
-    ensures read { OnOk result (HasNextFrom (F.holds files.old) (Named name.now) (asks_families purpose) library.old library.new) }
+    ensures read { OnOk result (HasNextFrom (F.holds files.old) (Named name.now) (asks_families purpose) library.old
+        library.new) }
     ensures err { IfErr result (IsNoSpec (F.holds files.old) (asks_families purpose) (specs_in library.old) before
         (length library.old.specs.items) (Named name.now)) }
     ensures read_failed { CountsFailedReads result (F.faults files.old) (F.faults files.new) }
