@@ -1,5 +1,5 @@
--- Lines in short form: the parameters of an event as a set, and its objects in one row with those of other lines.
-use Rattle.std.specs.Prelude.{◌≡◌, ℕ, ◌+◌, ◌*◌, ◌≤◌, List, ◌++◌, map, length, take, drop, Option, option_map, Result, Ok, Err, count_ones, All}
+-- Lines in short form: the parameters of an event as a set, and the objects of all lines in one row.
+use Rattle.std.specs.Prelude.{◌≡◌, ℕ, ◌+◌, ◌*◌, ◌<◌, ◌≤◌, List, ◌++◌, map, length, take, drop, Option, option_map, Result, Ok, Err, count_ones, slice_index, All}
 use Rattle.std.specs.List.{flat_map}
 use Rattle.jm_model.specs.declared.fault.ScriptError.{ScriptError}
 use Rattle.jm_model.specs.declared.step.Step.{Step}
@@ -7,7 +7,7 @@ use Rattle.jm_semantics.specs.Scripts.{projection_of}
 use Rattle.jm_script.specs.Events.{spread}
 use Rattle.jm_script.specs.Projections.{script_of}
 use Rattle.jm_script.specs.Meanings.{most_steps, RisesFrom}
-use Rattle.jm_script.specs.declared.block.TheConstants.{MOST_LINES}
+use Rattle.jm_script.specs.declared.block.TheConstants.{MOST_LINES, HALF}
 use Rattle.jm_script.specs.declared.script.Target.{Target}
 use Rattle.jm_script.specs.declared.script.Target.TheVariants as target
 use Rattle.jm_script.specs.declared.script.ScriptLine.{ScriptLine}
@@ -36,20 +36,24 @@ targets_of numbers (Err error) = Err error
 -- the target of a short form, where the objects of all lines are these
 abbrev pub target_in : List ℕ → Brief → Target
 target_in objects (brief.Event spec letter mask first) = event_target spec letter.0 mask (drop first objects)
-target_in objects (brief.Death object) = target.Death object
+target_in objects (brief.Death first) = target.Death (slice_index objects first)
 target_in objects (brief.Pass spec) = target.Pass spec
+
+-- the number of a line, from its two halves
+abbrev pub number_of : BriefLine → ℕ
+number_of l = l.high * HALF + l.low
 
 -- the line of a short form
 abbrev pub line_in : List ℕ → BriefLine → ScriptLine
-line_in objects l = record { line = l.line; target = target_in objects l.brief }
+line_in objects l = record { line = number_of l; target = target_in objects l.brief }
 
 abbrev pub lines_in : List ℕ → List BriefLine → List ScriptLine
 lines_in objects lines = map (line_in objects) lines
 
--- the objects of a short form lie among so many
+-- the objects of a short form lie in a row of so many
 abbrev pub FitsIn : ℕ → Brief → Type 0
 FitsIn size (brief.Event spec letter mask first) = first + count_ones mask ≤ size
-FitsIn size (brief.Death object) = Unit {0}
+FitsIn size (brief.Death first) = first < size
 FitsIn size (brief.Pass spec) = Unit {0}
 
 -- each line has its objects, of which there are at most eight a line

@@ -18,32 +18,61 @@ pub(crate) const MOST_LINES: usize = 512;
 /// How many objects an event has at most.
 const MOST: usize = 8;
 
-/// What a line does. The objects of an event stand in a row, the first of them at a place.
+/// How many values half a number takes.
+const HALF: u32 = 65_536;
+
+/// What a line does. The objects of an event or a death stand in a row, the first of them at a place. A block has 4,096
+/// objects at most, so two bytes hold a place.
 #[derive(Clone, Copy)]
 enum Brief {
     Event {
         spec: u8,
         letter: Letter,
         mask: u8,
-        first: u32,
+        first: u16,
     },
     Death {
-        object: u32,
+        first: u16,
     },
     Pass {
         spec: u8,
     },
 }
 
-/// A line in short form, with its number.
+/// A line in short form. Its number stands in two halves, the lower one first, so that they are read at once.
 #[derive(Clone, Copy)]
 struct BriefLine {
-    line: u32,
+    low: u16,
+    high: u16,
     brief: Brief,
 }
 
-/// Some step lines, in order. A line takes 12 bytes, and four for each object of an event. Contracts see them as their
-/// list.
+impl BriefLine {
+    ghost use Rattle.jm_script.specs.Blocks.{number_of};
+
+    /// A line of this number that does this.
+    #[inline(always)]
+    fn of(line: u32, brief: Brief) -> BriefLine
+        ensures number { number_of result ≡ line }
+        ensures brief { result.brief ≡ brief }
+    {
+        BriefLine {
+            low: (line % HALF) as u16,
+            high: (line / HALF) as u16,
+            brief,
+        }
+    }
+
+    /// The number of the line.
+    #[inline(always)]
+    fn number(&self) -> u32
+        ensures { result ≡ number_of self.now }
+    {
+        self.high as u32 * HALF + self.low as u32
+    }
+}
+
+/// Some step lines, in order. A line takes 10 bytes, and four for each object. Contracts see them as their list.
 #[derive(Drop)]
 pub struct Block {
     lines: Vec<BriefLine>,
@@ -89,7 +118,7 @@ impl Block {
         self.lines.reserve(1)?;
         self.objects.reserve(MOST)?;
         let brief = shortened(&mut self.objects, action, numbers);
-        self.lines.push_reserved(BriefLine { line, brief });
+        self.lines.push_reserved(BriefLine::of(line, brief));
         Ok(())
     }
 
@@ -105,7 +134,7 @@ impl Block {
         requires { place < length self.now }
         ensures { option_map (λ l. l.line) (slice_get self.now place) ≡ Some result }
     {
-        self.lines[place].line
+        self.lines[place].number()
     }
 
     /// The line at a place.
@@ -114,9 +143,11 @@ impl Block {
         requires { place < length self.now }
         ensures { slice_get self.now place ≡ Some result }
     {
-        let BriefLine { line, brief } = self.lines[place];
-        let target = whole(&self.objects, brief);
-        ScriptLine { line, target }
+        let line = self.lines[place];
+        ScriptLine {
+            line: line.number(),
+            target: whole(&self.objects, line.brief),
+        }
     }
 
     /// Adds the steps that are for a specification at the end, with the numbers of their lines. Out of memory, it may
@@ -140,15 +171,15 @@ impl Block {
 #[inline(always)]
 fn shortened(objects: &mut Vec<u32>, action: Action, numbers: &[u32; 8]) -> Brief
     requires room { vec_len objects.old + 8 ≤ vec_capacity objects.old }
-    requires bounded { vec_len objects.old < 2 ^ 32 }
+    requires bounded { vec_len objects.old < 2 ^ 16 }
     ensures target { target_in objects.new.items result ≡ target_of numbers.now action }
     ensures fits { FitsIn (length objects.new.items) result }
     ensures grown { Grown objects.old.items objects.new.items }
     ensures len { vec_len objects.new ≤ vec_len objects.old + 8 }
 {
+    let first = objects.len() as u16;
     match action {
         Action::Event { event } => {
-            let first = objects.len() as u32;
             add_first(objects, numbers, event.mask.count_ones() as usize);
             Brief::Event {
                 spec: event.spec,
@@ -157,7 +188,10 @@ fn shortened(objects: &mut Vec<u32>, action: Action, numbers: &[u32; 8]) -> Brie
                 first,
             }
         }
-        Action::Death { object } => Brief::Death { object },
+        Action::Death { object } => {
+            objects.push_reserved(object);
+            Brief::Death { first }
+        }
         Action::Pass { spec } => Brief::Pass { spec },
     }
 }
@@ -194,7 +228,9 @@ fn whole(objects: &[u32], brief: Brief) -> Target
             letter,
             binding: binding(&objects[first as usize..], mask),
         },
-        Brief::Death { object } => Target::Death { object },
+        Brief::Death { first } => Target::Death {
+            object: objects[first as usize],
+        },
         Brief::Pass { spec } => Target::Pass { spec },
     }
 }
