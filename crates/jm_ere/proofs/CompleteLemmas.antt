@@ -8,13 +8,13 @@ use Rattle.jm_ere.specs.declared.formula.Unary.TheVariants.{Not, Any, Many}
 use Rattle.jm_ere.specs.declared.formula.Binary.TheVariants.{Then, Either, Both}
 use Rattle.jm_ere.specs.declared.formula.Node.{Node}
 use Rattle.jm_ere.specs.declared.formula.Node.TheVariants.{Push, Wrap, Join}
-use Rattle.jm_ere.specs.declared.reader.Sign.{Sign}
-use Rattle.jm_ere.specs.declared.reader.Sign.TheVariants.{Operand, Opening, Closing, Tilde, Asterisk, PlusSign, Bar, Ampersand, Other}
+use Rattle.jm_ere.specs.declared.reader.Lexeme.{Lexeme}
+use Rattle.jm_ere.specs.declared.reader.Lexeme.TheVariants.{Operand, Opening, Closing, Tilde, Asterisk, PlusSign, Bar, Ampersand, Other}
 use Rattle.jm_ere.specs.declared.reader.Pending.{Pending}
 use Rattle.jm_ere.specs.declared.reader.Parser.{Parser}
 use Rattle.jm_ere.specs.Formulas.{Formula, Leaf, Over, Between}
 use Rattle.jm_ere.specs.Spelling.{Rule, AltRule, AndRule, SeqRule, NotRule, RepRule, AtomRule, SpellsBy, name, epsilon, empty, inside, one_atom, any, many, one_rep, complement, one_not, sequence, one_seq, both, one_and, either, Spells}
-use Rattle.jm_ere.specs.Rules.{sign_of, postfix, flag, complements, juxtaposed, after_sign, after_all, finished, parsed}
+use Rattle.jm_ere.specs.Rules.{lexeme_of, postfix, flag, complements, juxtaposed, after_lexeme, after_all, finished, parsed}
 use Rattle.jm_ere.proofs.SignLemmas.{epsilon_sign, empty_sign, name_sign, opening_sign, closing_sign, tilde_sign, star_sign, plus_sign, bar_sign, ampersand_sign}
 
 -- a reader's state by its parts
@@ -28,13 +28,13 @@ at nodes e b t n ready outer = record {
 -- ---- one token, and several
 
 module _ (bytes : List ℕ) where
-  pub follow : (p q : Parser) (t : Token) (ts : List Token) (s : Sign) → sign_of bytes t ≡ s → after_sign p s ≡ Some q → after_all bytes p (t ∷ ts) ≡ after_all bytes q ts
-  follow p q t ts s h k = ap (λ (x : Sign). option_and_then (λ next. after_all bytes next ts) (after_sign p x)) h ∙ ap (option_and_then (λ next. after_all bytes next ts)) k
+  pub follow : (p q : Parser) (t : Token) (ts : List Token) (s : Lexeme) → lexeme_of bytes t ≡ s → after_lexeme p s ≡ Some q → after_all bytes p (t ∷ ts) ≡ after_all bytes q ts
+  follow p q t ts s h k = ap (λ (x : Lexeme). option_and_then (λ next. after_all bytes next ts) (after_lexeme p x)) h ∙ ap (option_and_then (λ next. after_all bytes next ts)) k
 
   pub after_append : (front behind : List Token) (p : Parser) → after_all bytes p (front ++ behind) ≡ option_and_then (λ q. after_all bytes q behind) (after_all bytes p front)
   after_append [] behind p = refl
   after_append (t ∷ ts) behind p =
-      elim (after_sign p (sign_of bytes t)) as (λ o. option_and_then (λ q. after_all bytes q (ts ++ behind)) o ≡ option_and_then (λ r. after_all bytes r behind) (option_and_then (λ q. after_all bytes q ts) o)) [
+      elim (after_lexeme p (lexeme_of bytes t)) as (λ o. option_and_then (λ q. after_all bytes q (ts ++ behind)) o ≡ option_and_then (λ r. after_all bytes r behind) (option_and_then (λ q. after_all bytes q ts) o)) [
         | None ↦ refl
         | Some q ↦ after_append ts behind q
       ]
@@ -44,7 +44,7 @@ module _ (bytes : List ℕ) where
 
 -- ---- what begins a formula of the inner rules
 
-abbrev Starts : Sign → Type 0
+abbrev Starts : Lexeme → Type 0
 Starts (Operand atom) = Unit {0}
 Starts Opening = Unit {0}
 Starts Tilde = Unit {0}
@@ -54,12 +54,12 @@ module _ (bytes : List ℕ) where
   record Begins (tokens : List Token) : Type 0 where
     token : Token
     rest : List Token
-    sign : Sign
+    sign : Lexeme
     cut : tokens ≡ token ∷ rest
-    means : sign_of bytes token ≡ sign
+    means : lexeme_of bytes token ≡ sign
     starts : Starts sign
 
-  begins_with : (t : Token) (rest : List Token) (s : Sign) → sign_of bytes t ≡ s → Starts s → Begins (t ∷ rest)
+  begins_with : (t : Token) (rest : List Token) (s : Lexeme) → lexeme_of bytes t ≡ s → Starts s → Begins (t ∷ rest)
   begins_with t rest s h k = record { token = t; rest = rest; sign = s; cut = refl; means = h; starts = k }
 
   begins_longer : (tokens more : List Token) → Begins tokens → Begins (tokens ++ more)
@@ -83,7 +83,7 @@ module _ (bytes : List ℕ) where
   begins _ _ _ (either front mark behind f g d h k) = begins_longer front (mark ∷ behind) (begins _ front f d)
 
   -- where such tokens follow an operand, they are read as after a juxtaposition
-  starts_next : (os : List Node) (e b t : Bool) (n : ℕ) (outer : List Pending) (s : Sign) → Starts s → after_sign (at os e b t n true outer) s ≡ after_sign (juxtaposed (at os e b t n true outer)) s
+  starts_next : (os : List Node) (e b t : Bool) (n : ℕ) (outer : List Pending) (s : Lexeme) → Starts s → after_lexeme (at os e b t n true outer) s ≡ after_lexeme (juxtaposed (at os e b t n true outer)) s
   starts_next os e b t n outer (Operand atom) h = refl
   starts_next os e b t n outer Opening h = refl
   starts_next os e b t n outer Tilde h = refl
@@ -97,7 +97,7 @@ module _ (bytes : List ℕ) where
   next_operand : (os : List Node) (e b t : Bool) (n : ℕ) (outer : List Pending) (tokens : List Token) → Begins tokens → after_all bytes (at os e b t n true outer) tokens ≡ after_all bytes (juxtaposed (at os e b t n true outer)) tokens
   next_operand os e b t n outer tokens h =
       let p = at os e b t n true outer in
-      let one : after_sign p (sign_of bytes h.token) ≡ after_sign (juxtaposed p) (sign_of bytes h.token) = ap (λ (x : Sign). after_sign p x) h.means ∙ starts_next os e b t n outer h.sign h.starts ∙ sym (ap (λ (x : Sign). after_sign (juxtaposed p) x) h.means) in
+      let one : after_lexeme p (lexeme_of bytes h.token) ≡ after_lexeme (juxtaposed p) (lexeme_of bytes h.token) = ap (λ (x : Lexeme). after_lexeme p x) h.means ∙ starts_next os e b t n outer h.sign h.starts ∙ sym (ap (λ (x : Lexeme). after_lexeme (juxtaposed p) x) h.means) in
       ap (λ (l : List Token). after_all bytes p l) h.cut ∙ ap (option_and_then (λ next. after_all bytes next h.rest)) one ∙ sym (ap (λ (l : List Token). after_all bytes (juxtaposed p) l) h.cut)
 
 -- ---- nodes one after the other
@@ -154,10 +154,10 @@ module _ (bytes : List ℕ) where
   ReadsBy AndRule = ReadsAnd
   ReadsBy AltRule = ReadsAlt
 
-  atom_read : (t : Token) (atom : Atom) → sign_of bytes t ≡ Operand atom → ReadsOperand (t ∷ []) (Leaf atom)
+  atom_read : (t : Token) (atom : Atom) → lexeme_of bytes t ≡ Operand atom → ReadsOperand (t ∷ []) (Leaf atom)
   atom_read t atom h = λ os e b u n outer. follow bytes (at os e b u n false outer) (at (os ++ Push atom ∷ []) e b u n true outer) t [] (Operand atom) h refl
 
-  inside_read : (opening : Token) (tokens : List Token) (closing : Token) (f : Formula) → sign_of bytes opening ≡ Opening → ReadsAlt tokens f → sign_of bytes closing ≡ Closing → ReadsOperand (opening ∷ tokens ++ closing ∷ []) f
+  inside_read : (opening : Token) (tokens : List Token) (closing : Token) (f : Formula) → lexeme_of bytes opening ≡ Opening → ReadsAlt tokens f → lexeme_of bytes closing ≡ Closing → ReadsOperand (opening ∷ tokens ++ closing ∷ []) f
   inside_read opening tokens closing f h reads k = λ os e b t n outer.
       let held : Pending = record { has_either = e; has_both = b; has_then = t; nots = n; ready = false } in
       let alt = reads os (held ∷ outer) in
@@ -168,14 +168,14 @@ module _ (bytes : List ℕ) where
       ∙ follow bytes last (at end e b t n true outer) closing [] Closing k refl
       ∙ ap (λ (l : List Node). Some (at l e b t n true outer)) alt.6
 
-  suffix_read : (tokens : List Token) (mark : Token) (f g : Formula) (s : Sign) (node : Node) → ReadsOperand tokens f → sign_of bytes mark ≡ s → postfix g ≡ postfix f ++ node ∷ []
-      → ((os : List Node) (e b t : Bool) (n : ℕ) (outer : List Pending) → after_sign (at os e b t n true outer) s ≡ Some (at (os ++ node ∷ []) e b t n true outer)) → ReadsOperand (tokens ++ mark ∷ []) g
+  suffix_read : (tokens : List Token) (mark : Token) (f g : Formula) (s : Lexeme) (node : Node) → ReadsOperand tokens f → lexeme_of bytes mark ≡ s → postfix g ≡ postfix f ++ node ∷ []
+      → ((os : List Node) (e b t : Bool) (n : ℕ) (outer : List Pending) → after_lexeme (at os e b t n true outer) s ≡ Some (at (os ++ node ∷ []) e b t n true outer)) → ReadsOperand (tokens ++ mark ∷ []) g
   suffix_read tokens mark f g s node reads h is moves = λ os e b t n outer.
       went bytes tokens (mark ∷ []) (at os e b t n false outer) (at (os ++ postfix f) e b t n true outer) (reads os e b t n outer)
       ∙ follow bytes (at (os ++ postfix f) e b t n true outer) (at ((os ++ postfix f) ++ node ∷ []) e b t n true outer) mark [] s h (moves (os ++ postfix f) e b t n outer)
       ∙ ap (λ (l : List Node). Some (at l e b t n true outer)) (append_assoc os (postfix f) (node ∷ []) ∙ ap (λ (l : List Node). os ++ l) (sym is))
 
-  tilde_read : (tilde : Token) (tokens : List Token) (f : Formula) → sign_of bytes tilde ≡ Tilde → ReadsNot tokens f → ReadsNot (tilde ∷ tokens) (Over Not f)
+  tilde_read : (tilde : Token) (tokens : List Token) (f : Formula) → lexeme_of bytes tilde ≡ Tilde → ReadsNot tokens f → ReadsNot (tilde ∷ tokens) (Over Not f)
   tilde_read tilde tokens f h reads = λ os e b t n outer.
       let inner = reads os e b t (suc n) outer in (
         inner.0,
@@ -198,7 +198,7 @@ module _ (bytes : List ℕ) where
         joins os here (postfix f) second.1 (postfix g) (Join Then ∷ []) (complements second.0) first.4 (second.3 ∙ append-nil (here ++ postfix g)),
       )
 
-  both_read : (front : List Token) (mark : Token) (behind : List Token) (f g : Formula) → ReadsAnd front f → sign_of bytes mark ≡ Ampersand → ReadsSeq behind g → ReadsAnd (front ++ mark ∷ behind) (Between Both f g)
+  both_read : (front : List Token) (mark : Token) (behind : List Token) (f g : Formula) → ReadsAnd front f → lexeme_of bytes mark ≡ Ampersand → ReadsSeq behind g → ReadsAnd (front ++ mark ∷ behind) (Between Both f g)
   both_read front mark behind f g reads h more = λ os e outer.
       let first = reads os e outer in
       let here : List Node = first.3 ++ ((complements first.2 ++ flag first.1 Then) ++ flag first.0 Both) in
@@ -213,7 +213,7 @@ module _ (bytes : List ℕ) where
         joins os here (postfix f) second.2 (postfix g) (Join Both ∷ []) (complements second.1 ++ flag second.0 Then) first.5 second.4,
       )
 
-  either_read : (front : List Token) (mark : Token) (behind : List Token) (f g : Formula) → ReadsAlt front f → sign_of bytes mark ≡ Bar → ReadsAnd behind g → ReadsAlt (front ++ mark ∷ behind) (Between Either f g)
+  either_read : (front : List Token) (mark : Token) (behind : List Token) (f g : Formula) → ReadsAlt front f → lexeme_of bytes mark ≡ Bar → ReadsAnd behind g → ReadsAlt (front ++ mark ∷ behind) (Between Either f g)
   either_read front mark behind f g reads h more = λ os outer.
       let first = reads os outer in
       let here : List Node = first.4 ++ (((complements first.3 ++ flag first.2 Then) ++ flag first.1 Both) ++ flag first.0 Either) in

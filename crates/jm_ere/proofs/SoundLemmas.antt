@@ -11,13 +11,13 @@ use Rattle.jm_ere.specs.declared.formula.Unary.TheVariants.{Not, Any, Many}
 use Rattle.jm_ere.specs.declared.formula.Binary.TheVariants.{Then, Either, Both}
 use Rattle.jm_ere.specs.declared.formula.Node.{Node}
 use Rattle.jm_ere.specs.declared.formula.Node.TheVariants.{Push, Wrap, Join}
-use Rattle.jm_ere.specs.declared.reader.Sign.{Sign}
-use Rattle.jm_ere.specs.declared.reader.Sign.TheVariants.{Operand, Opening, Closing, Tilde, Asterisk, PlusSign, Bar, Ampersand, Other}
+use Rattle.jm_ere.specs.declared.reader.Lexeme.{Lexeme}
+use Rattle.jm_ere.specs.declared.reader.Lexeme.TheVariants.{Operand, Opening, Closing, Tilde, Asterisk, PlusSign, Bar, Ampersand, Other}
 use Rattle.jm_ere.specs.declared.reader.Pending.{Pending}
 use Rattle.jm_ere.specs.declared.reader.Parser.{Parser}
 use Rattle.jm_ere.specs.Formulas.{Formula, Leaf, Over, Between}
 use Rattle.jm_ere.specs.Spelling.{Rule, AltRule, AndRule, SeqRule, NotRule, RepRule, SpellsBy, name, epsilon, empty, inside, one_atom, any, many, one_rep, complement, one_not, sequence, one_seq, both, one_and, either, Spells}
-use Rattle.jm_ere.specs.Rules.{sign_of, postfix, flag, complements, fresh, beginning, juxtaposed, before_operand, behind_operand, after_sign, after_all, finished, parsed}
+use Rattle.jm_ere.specs.Rules.{lexeme_of, postfix, flag, complements, fresh, beginning, juxtaposed, before_operand, behind_operand, after_lexeme, after_all, finished, parsed}
 use Rattle.jm_ere.proofs.SignLemmas.{Says, sign_says}
 use Rattle.jm_ere.proofs.CompleteLemmas.{at, complements_turn}
 
@@ -376,7 +376,7 @@ module _ (bytes : List ℕ) where
     inner = nothing_held;
   }
 
-  before_step : (os : List Node) (e b t : Bool) (n : ℕ) (outer : List Pending) (ts : List Token) (m : Token) (s : Sign) (q : Parser) → Says bytes m s → Holds (at os e b t n false outer) ts → before_operand (at os e b t n false outer) s ≡ Some q → Holds q (ts ++ m ∷ [])
+  before_step : (os : List Node) (e b t : Bool) (n : ℕ) (outer : List Pending) (ts : List Token) (m : Token) (s : Lexeme) (q : Parser) → Says bytes m s → Holds (at os e b t n false outer) ts → before_operand (at os e b t n false outer) s ≡ Some q → Holds q (ts ++ m ∷ [])
   before_step os e b t n outer ts m (Operand atom) q is h moves =
       subst (λ (x : Parser). Holds x (ts ++ m ∷ [])) (same_some _ q moves)
       (moved (at os e b t n false outer) (record { has_either = e; has_both = b; has_then = t; nots = n; ready = true }) (os ++ Push atom ∷ []) (Push atom ∷ []) ts (m ∷ []) h refl
@@ -423,7 +423,7 @@ module _ (bytes : List ℕ) where
         inner = takes_operand f.has_either f.has_both f.has_then f.nots out.1 out.4 waits us whole.0 (one_atom us whole.0 (inside out.2 h.t1 m whole.0 out.8 whole.1 is));
       }
 
-  behind_step : (os : List Node) (e b t : Bool) (n : ℕ) (outer : List Pending) (ts : List Token) (m : Token) (s : Sign) (q : Parser) → Says bytes m s → Holds (at os e b t n true outer) ts → behind_operand (at os e b t n true outer) s ≡ Some q → Holds q (ts ++ m ∷ [])
+  behind_step : (os : List Node) (e b t : Bool) (n : ℕ) (outer : List Pending) (ts : List Token) (m : Token) (s : Lexeme) (q : Parser) → Says bytes m s → Holds (at os e b t n true outer) ts → behind_operand (at os e b t n true outer) s ≡ Some q → Holds q (ts ++ m ∷ [])
   behind_step os e b t n outer ts m Asterisk q is h moves =
       subst (λ (x : Parser). Holds x (ts ++ m ∷ [])) (same_some _ q moves)
       (moved (at os e b t n true outer) (record { has_either = e; has_both = b; has_then = t; nots = n; ready = true }) (os ++ Wrap Any ∷ []) (Wrap Any ∷ []) ts (m ∷ []) h refl
@@ -447,14 +447,14 @@ module _ (bytes : List ℕ) where
   behind_step os e b t n outer ts m Opening q is h moves = before_step (os ++ (complements n ++ flag t Then)) e b true 0 outer ts m Opening q is (juxtaposed_holds os e b t n outer ts h) moves
   behind_step os e b t n outer ts m Tilde q is h moves = before_step (os ++ (complements n ++ flag t Then)) e b true 0 outer ts m Tilde q is (juxtaposed_holds os e b t n outer ts h) moves
 
-  one_step : (os : List Node) (e b t : Bool) (n : ℕ) (ready : Bool) (outer : List Pending) (ts : List Token) (m : Token) (q : Parser) → Holds (at os e b t n ready outer) ts → after_sign (at os e b t n ready outer) (sign_of bytes m) ≡ Some q → Holds q (ts ++ m ∷ [])
-  one_step os e b t n true outer ts m q h moves = behind_step os e b t n outer ts m (sign_of bytes m) q (sign_says bytes m) h moves
-  one_step os e b t n false outer ts m q h moves = before_step os e b t n outer ts m (sign_of bytes m) q (sign_says bytes m) h moves
+  one_step : (os : List Node) (e b t : Bool) (n : ℕ) (ready : Bool) (outer : List Pending) (ts : List Token) (m : Token) (q : Parser) → Holds (at os e b t n ready outer) ts → after_lexeme (at os e b t n ready outer) (lexeme_of bytes m) ≡ Some q → Holds q (ts ++ m ∷ [])
+  one_step os e b t n true outer ts m q h moves = behind_step os e b t n outer ts m (lexeme_of bytes m) q (sign_says bytes m) h moves
+  one_step os e b t n false outer ts m q h moves = before_step os e b t n outer ts m (lexeme_of bytes m) q (sign_says bytes m) h moves
 
   all_steps : (ts us : List Token) (p q : Parser) → Holds p ts → after_all bytes p us ≡ Some q → Holds q (ts ++ us)
   all_steps ts [] p q h goes = subst (λ (x : Parser). Holds x (ts ++ [])) (same_some p q goes) (subst (λ (l : List Token). Holds p l) (sym (append-nil ts)) h)
   all_steps ts (u ∷ us) p q h goes =
-      let step = step_of (after_sign p (sign_of bytes u)) (λ (next : Parser). after_all bytes next us) q goes in
+      let step = step_of (after_lexeme p (lexeme_of bytes u)) (λ (next : Parser). after_all bytes next us) q goes in
       let next = one_step p.nodes p.pending.has_either p.pending.has_both p.pending.has_then p.pending.nots p.pending.ready p.outer ts u step.0 h step.1 in
       subst (λ (l : List Token). Holds q l) (append_assoc ts (u ∷ []) us) (all_steps (ts ++ u ∷ []) us step.0 q next step.2)
 

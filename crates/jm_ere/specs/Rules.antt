@@ -12,15 +12,15 @@ use Rattle.jm_ere.specs.declared.formula.Binary.{Binary}
 use Rattle.jm_ere.specs.declared.formula.Binary.TheVariants.{Then, Either, Both}
 use Rattle.jm_ere.specs.declared.formula.Node.{Node}
 use Rattle.jm_ere.specs.declared.formula.Node.TheVariants.{Push, Wrap, Join}
-use Rattle.jm_ere.specs.declared.reader.Sign.{Sign}
-use Rattle.jm_ere.specs.declared.reader.Sign.TheVariants.{Operand, Opening, Closing, Tilde, Asterisk, PlusSign, Bar, Ampersand, Other}
+use Rattle.jm_ere.specs.declared.reader.Lexeme.{Lexeme}
+use Rattle.jm_ere.specs.declared.reader.Lexeme.TheVariants.{Operand, Opening, Closing, Tilde, Asterisk, PlusSign, Bar, Ampersand, Other}
 use Rattle.jm_ere.specs.declared.reader.Pending.{Pending}
 use Rattle.jm_ere.specs.declared.reader.Parser.{Parser}
 use Rattle.jm_ere.specs.Formulas.{Formula, Leaf, Over, Between}
 
 -- what a token means
-unfoldable pub sign_of : Text → Token → Sign
-sign_of bytes t =
+unfoldable pub lexeme_of : Text → Token → Lexeme
+lexeme_of bytes t =
     if is_word bytes t (codes "epsilon") then Operand Epsilon
     else if is_word bytes t (codes "empty") then Operand Empty
     else if is_name bytes t then Operand (Name t)
@@ -89,7 +89,7 @@ closed (f ∷ fs) p =
     Some (record { nodes = p.nodes ++ end_either p.pending; pending = record f { ready = true }; outer = fs })
 
 -- after a token where an operand is to come
-abbrev pub before_operand : Parser → Sign → Option Parser
+abbrev pub before_operand : Parser → Lexeme → Option Parser
 before_operand p (Operand atom) =
     Some (with_pending (with_nodes p (Push atom ∷ [])) (record p.pending { ready = true }))
 before_operand p Opening = Some (record p { pending = fresh; outer = p.pending ∷ p.outer })
@@ -97,7 +97,7 @@ before_operand p Tilde = Some (with_pending p (record p.pending { nots = suc p.p
 before_operand p _ = None
 
 -- after a token after an operand
-abbrev pub behind_operand : Parser → Sign → Option Parser
+abbrev pub behind_operand : Parser → Lexeme → Option Parser
 behind_operand p Asterisk = Some (with_nodes p (Wrap Any ∷ []))
 behind_operand p PlusSign = Some (with_nodes p (Wrap Many ∷ []))
 behind_operand p Ampersand = Some
@@ -110,8 +110,8 @@ behind_operand p Other = None
 behind_operand p sign = before_operand (juxtaposed p) sign
 
 -- after a token; nothing, where it can't go on so
-abbrev pub after_sign : Parser → Sign → Option Parser
-after_sign p sign = if p.pending.ready then behind_operand p sign else before_operand p sign
+abbrev pub after_lexeme : Parser → Lexeme → Option Parser
+after_lexeme p sign = if p.pending.ready then behind_operand p sign else before_operand p sign
 
 -- a call takes tokens, after which a reader is so far, or fails where they can't stand
 abbrev pub Takes : {X : Type 0} → Result X SpecError → Parser → Option Parser → Type 0
@@ -121,7 +121,7 @@ Takes (Err e) new after = FailsAt e after
 -- after all tokens
 abbrev pub after_all : Text → Parser → List Token → Option Parser
 after_all bytes p [] = Some p
-after_all bytes p (t ∷ ts) = option_and_then (λ next. after_all bytes next ts) (after_sign p (sign_of bytes t))
+after_all bytes p (t ∷ ts) = option_and_then (λ next. after_all bytes next ts) (after_lexeme p (lexeme_of bytes t))
 
 -- all nodes, if the formula may end
 abbrev pub finished : List Pending → Bool → Parser → Option (List Node)

@@ -2,7 +2,7 @@
 ghost use Rattle.std.specs.Prelude.{◌≡◌, ◌<◌, ◌-◌, ◌^◌, [], ◌++◌, OnOk, IfOk, IfErr, MatchBool, None, Some};
 ghost use Rattle.jm_text.specs.Spans.{LiesWithin, LieWithin};
 ghost use Rattle.jm_reading.specs.Answers.{Gives, IsSyntax};
-ghost use Rattle.jm_ere.specs.Rules.{sign_of, fresh, beginning, flag, complements, end_not, end_sequence, end_both, end_either, with_nodes, juxtaposed, closed, before_operand, behind_operand, after_sign, after_all, finished, parsed, Takes};
+ghost use Rattle.jm_ere.specs.Rules.{lexeme_of, fresh, beginning, flag, complements, end_not, end_sequence, end_both, end_either, with_nodes, juxtaposed, closed, before_operand, behind_operand, after_lexeme, after_all, finished, parsed, Takes};
 
 use crate::formula::{Atom, Binary, Node, Unary};
 use crate::stack::Stack;
@@ -13,7 +13,7 @@ use std::alloc::Global;
 
 /// What a token means.
 #[derive(Clone, Copy)]
-pub enum Sign {
+pub enum Lexeme {
     Operand(Atom),
     Opening,
     Closing,
@@ -26,33 +26,33 @@ pub enum Sign {
 }
 
 /// What the token means.
-#[tactic(auto, unfolding(crate::specs::Rules::sign_of))]
-fn sign_of(bytes: &[u8], token: Token) -> Sign
+#[tactic(auto, unfolding(crate::specs::Rules::lexeme_of))]
+fn lexeme_of(bytes: &[u8], token: Token) -> Lexeme
     requires { LiesWithin bytes.now token }
-    ensures { result ≡ sign_of bytes.now token }
+    ensures { result ≡ lexeme_of bytes.now token }
 {
     if is_word(bytes, token, b"epsilon") {
-        Sign::Operand(Atom::Epsilon)
+        Lexeme::Operand(Atom::Epsilon)
     } else if is_word(bytes, token, b"empty") {
-        Sign::Operand(Atom::Empty)
+        Lexeme::Operand(Atom::Empty)
     } else if is_name(bytes, token) {
-        Sign::Operand(Atom::Name(token))
+        Lexeme::Operand(Atom::Name(token))
     } else if is_mark(bytes, token, b"(") {
-        Sign::Opening
+        Lexeme::Opening
     } else if is_mark(bytes, token, b")") {
-        Sign::Closing
+        Lexeme::Closing
     } else if is_mark(bytes, token, b"~") {
-        Sign::Tilde
+        Lexeme::Tilde
     } else if is_mark(bytes, token, b"*") {
-        Sign::Asterisk
+        Lexeme::Asterisk
     } else if is_mark(bytes, token, b"+") {
-        Sign::PlusSign
+        Lexeme::PlusSign
     } else if is_mark(bytes, token, b"|") {
-        Sign::Bar
+        Lexeme::Bar
     } else if is_mark(bytes, token, b"&") {
-        Sign::Ampersand
+        Lexeme::Ampersand
     } else {
-        Sign::Other
+        Lexeme::Other
     }
 }
 
@@ -160,7 +160,7 @@ impl Parser {
 
     /// A `&` stands after the last operand.
     fn intersect(&mut self) -> Result<(), SpecError>
-        ensures ok { OnOk result (behind_operand self.old Sign.Ampersand ≡ Some self.new) }
+        ensures ok { OnOk result (behind_operand self.old Lexeme.Ampersand ≡ Some self.new) }
         ensures err { IfErr result (λ e. e ≡ SpecError.NoMemory) }
     {
         self.end_both()?;
@@ -173,7 +173,7 @@ impl Parser {
 
     /// A `|` stands after the last operand.
     fn unite(&mut self) -> Result<(), SpecError>
-        ensures ok { OnOk result (behind_operand self.old Sign.Bar ≡ Some self.new) }
+        ensures ok { OnOk result (behind_operand self.old Lexeme.Bar ≡ Some self.new) }
         ensures err { IfErr result (λ e. e ≡ SpecError.NoMemory) }
     {
         self.end_either()?;
@@ -201,24 +201,24 @@ impl Parser {
     }
 
     /// A token where an operand is to come. It answers whether the token can stand here.
-    fn before_operand(&mut self, sign: Sign) -> Result<bool, SpecError>
+    fn before_operand(&mut self, sign: Lexeme) -> Result<bool, SpecError>
         requires { self.old.pending.nots < 2 ^ 64 - 1 }
         ensures ok { IfOk result (λ goes. MatchBool goes (before_operand self.old sign ≡ Some self.new)
             (before_operand self.old sign ≡ None)) }
         ensures err { IfErr result (λ e. e ≡ SpecError.NoMemory) }
     {
         match sign {
-            Sign::Operand(atom) => {
+            Lexeme::Operand(atom) => {
                 self.nodes.push(Node::Push(atom))?;
                 self.pending.ready = true;
                 Ok(true)
             }
-            Sign::Opening => {
+            Lexeme::Opening => {
                 self.outer.push(self.pending)?;
                 self.pending = Pending::new();
                 Ok(true)
             }
-            Sign::Tilde => {
+            Lexeme::Tilde => {
                 self.pending.nots += 1;
                 Ok(true)
             }
@@ -227,31 +227,31 @@ impl Parser {
     }
 
     /// A token after an operand. It answers whether the token can stand here.
-    fn behind_operand(&mut self, sign: Sign) -> Result<bool, SpecError>
+    fn behind_operand(&mut self, sign: Lexeme) -> Result<bool, SpecError>
         ensures ok { IfOk result (λ goes. MatchBool goes (behind_operand self.old sign ≡ Some self.new)
             (behind_operand self.old sign ≡ None)) }
         ensures err { IfErr result (λ e. e ≡ SpecError.NoMemory) }
     {
         match sign {
-            Sign::Asterisk => {
+            Lexeme::Asterisk => {
                 self.nodes.push(Node::Wrap(Unary::Any))?;
                 Ok(true)
             }
-            Sign::PlusSign => {
+            Lexeme::PlusSign => {
                 self.nodes.push(Node::Wrap(Unary::Many))?;
                 Ok(true)
             }
-            Sign::Ampersand => {
+            Lexeme::Ampersand => {
                 self.intersect()?;
                 Ok(true)
             }
-            Sign::Bar => {
+            Lexeme::Bar => {
                 self.unite()?;
                 Ok(true)
             }
-            Sign::Closing => self.close(),
-            Sign::Other => Ok(false),
-            Sign::Operand(_) | Sign::Opening | Sign::Tilde => {
+            Lexeme::Closing => self.close(),
+            Lexeme::Other => Ok(false),
+            Lexeme::Operand(_) | Lexeme::Opening | Lexeme::Tilde => {
                 self.juxtapose()?;
                 self.before_operand(sign)
             }
@@ -259,10 +259,10 @@ impl Parser {
     }
 
     /// A token. It answers whether the token can stand here.
-    fn follow(&mut self, sign: Sign) -> Result<bool, SpecError>
+    fn follow(&mut self, sign: Lexeme) -> Result<bool, SpecError>
         requires { self.old.pending.nots < 2 ^ 64 - 1 }
-        ensures ok { IfOk result (λ goes. MatchBool goes (after_sign self.old sign ≡ Some self.new)
-            (after_sign self.old sign ≡ None)) }
+        ensures ok { IfOk result (λ goes. MatchBool goes (after_lexeme self.old sign ≡ Some self.new)
+            (after_lexeme self.old sign ≡ None)) }
         ensures err { IfErr result (λ e. e ≡ SpecError.NoMemory) }
     {
         if self.pending.ready {
@@ -276,9 +276,9 @@ impl Parser {
     fn take(&mut self, bytes: &[u8], token: Token) -> Result<(), SpecError>
         requires token { LiesWithin bytes.now token }
         requires nots { self.old.pending.nots < 2 ^ 64 - 1 }
-        ensures { Takes result self.new (after_sign self.old (sign_of bytes.now token)) }
+        ensures { Takes result self.new (after_lexeme self.old (lexeme_of bytes.now token)) }
     {
-        if self.follow(sign_of(bytes, token))? {
+        if self.follow(lexeme_of(bytes, token))? {
             Ok(())
         } else {
             Err(syntax(token.line))

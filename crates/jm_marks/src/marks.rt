@@ -7,7 +7,7 @@ use crate::bound::{first_object, is_beyond, raised};
 use crate::hints::Hints;
 use crate::singles::{Singles, is_single};
 use crate::sweep::drop_dead;
-use crate::watch::Watch;
+use crate::watch::Spots;
 use indexmap::IndexSet;
 use jm_model::{Binding, NoMemory};
 use jm_objects::Objects;
@@ -22,7 +22,7 @@ pub struct Marks {
     /// Whether marks of one parameter stand among the bindings, where an object had no byte when the mark was added.
     has_strays: bool,
     bindings: IndexSet<Binding>,
-    watch: Watch,
+    watch: Spots,
     masks: Vec<u8>,
     /// All objects of marks are below it.
     limit: u64,
@@ -58,7 +58,7 @@ impl Marks {
             singles: Singles::new(alloc),
             has_strays: false,
             bindings: IndexSet::new(alloc),
-            watch: Watch::new(alloc),
+            watch: Spots::new(alloc),
             masks: Vec::new(alloc),
             limit: 0,
             hints: Hints::new(alloc),

@@ -9,7 +9,7 @@ ghost use Rattle.jm_marks.specs.Layout.{IsBound, AreWatched};
 
 use crate::dead::live_object;
 use crate::hints::Hints;
-use crate::watch::{GROUP, Watch};
+use crate::watch::{GROUP, Spots};
 use indexmap::IndexSet;
 use jm_model::Binding;
 use jm_objects::Objects;
@@ -18,7 +18,7 @@ use jm_objects::Objects;
 /// so that no other is filed anew.
 pub(crate) fn drop_dead(
     bindings: &mut IndexSet<Binding>,
-    watch: &mut Watch,
+    watch: &mut Spots,
     hints: &mut Hints,
     objects: &Objects,
 )

@@ -24,7 +24,7 @@ pub(crate) const WORD: usize = 64;
 
 /// A spot for each mark, by its place: one more than an object that it binds, or 0.
 #[derive(Drop)]
-pub(crate) struct Watch {
+pub(crate) struct Spots {
     spots: Vec<u32>,
     /// By spots: 0 where the object was alive at the last refresh, and else 1.
     flags: Vec<u8>,
@@ -34,7 +34,7 @@ pub(crate) struct Watch {
     words: Vec<u64>,
 }
 
-impl Model for Watch {
+impl Model for Spots {
     ghost use Rattle.std.specs.Prelude.{◌-◌, ◌≤◌, length, vec_capacity, vec_len};
     ghost use Rattle.jm_marks.specs.Watch.{Watching, AreFlags, AreSpots};
 
@@ -51,12 +51,12 @@ impl Model for Watch {
         × w.room ≤ length w.flags.items - 1 };
 }
 
-impl Watch {
+impl Spots {
     /// No mark.
-    pub(crate) fn new(alloc: Global) -> Watch
+    pub(crate) fn new(alloc: Global) -> Spots
         ensures { result.spots ≡ [] }
     {
-        Watch {
+        Spots {
             spots: Vec::new(alloc),
             flags: Vec::new(alloc),
             room: 0,

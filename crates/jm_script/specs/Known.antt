@@ -12,7 +12,7 @@ use Rattle.jm_script.specs.Fitting.{HasEvent}
 use Rattle.jm_script.specs.Meanings.{most_steps, statement_meaning}
 use Rattle.jm_script.specs.Answers.{IsStoppedBy}
 use Rattle.jm_script.specs.declared.event.NamedEvent.{NamedEvent}
-use Rattle.jm_script.specs.declared.known.Known.{Known}
+use Rattle.jm_script.specs.declared.known.KnownWord.{KnownWord}
 
 -- the word has the shape `SPEC.EVENT`, and with so many objects it names this event on each line
 pub record IsEventOf (catalog : List CatalogEntry) (word : Text) (count : ℕ) (event : NamedEvent) : Type 0 where
@@ -24,11 +24,11 @@ pub record IsEventOf (catalog : List CatalogEntry) (word : Text) (count : ℕ) (
   pub counted : count ≡ count_ones event.mask
 
 -- a known word names its event
-abbrev pub IsSound : List CatalogEntry → Known → Type 0
+abbrev pub IsSound : List CatalogEntry → KnownWord → Type 0
 IsSound catalog known = IsEventOf catalog known.word.now known.count known.event
 
 -- and so does each that there is
-abbrev pub AreSound : List CatalogEntry → List (Option Known) → Type 0
+abbrev pub AreSound : List CatalogEntry → List (Option KnownWord) → Type 0
 AreSound catalog slots = All (λ slot. IfSome slot (IsSound catalog)) slots
 
 -- a line `SPEC.EVENT OBJECT..` with so many objects is one step more, of the event that was found, or has a fault

@@ -11,7 +11,7 @@ const SPREAD: u64 = 0x9e37_79b9_7f4a_7c15;
 
 /// The word of an event line, with its event and the number of its objects.
 #[derive(Clone, Copy)]
-pub struct Known<'a> {
+pub struct KnownWord<'a> {
     pub word: &'a [u8],
     pub count: usize,
     pub event: NamedEvent,
@@ -20,7 +20,7 @@ pub struct Known<'a> {
 /// Known words, each in the slot that its bytes give. A new word takes the slot of one that stands there.
 #[derive(Clone, Copy)]
 pub struct KnownWords<'a> {
-    slots: [Option<Known<'a>>; 64],
+    slots: [Option<KnownWord<'a>>; 64],
 }
 
 /// What lasts from line to line: the known words, and the numbers of the objects of the last line that has some.
@@ -47,7 +47,7 @@ impl<'a> KnownWords<'a> {
     }
 
     /// Keeps a word.
-    pub fn keep(&mut self, known: Known<'a>)
+    pub fn keep(&mut self, known: KnownWord<'a>)
         ensures { (catalog : List CatalogEntry) → AreSound catalog self.old.slots → IsSound catalog known.entry →
             AreSound catalog self.new.slots }
     {
@@ -70,7 +70,7 @@ fn slot_of(word: &[u8]) -> usize
 }
 
 /// The event of a word with the given number of objects, if it is the known one.
-fn known_event(known: &Option<Known<'_>>, word: &[u8], count: usize) -> Option<NamedEvent>
+fn known_event(known: &Option<KnownWord<'_>>, word: &[u8], count: usize) -> Option<NamedEvent>
     ensures { (catalog : List CatalogEntry) → IfSome known.now (IsSound catalog) →
         IfSome result (IsEventOf catalog word.now count) }
 {

@@ -16,7 +16,7 @@ ghost use Rattle.jm_script.specs.Known.{AreSound, FindsEvent};
 use crate::action::Action;
 use crate::catalog::Catalog;
 use crate::event::{NamedEvent, named_event};
-use crate::known::{Known, KnownWords, Scratch};
+use crate::known::{KnownWord, KnownWords, Scratch};
 use crate::objects::{are_few, are_objects, have_room, known_numbers, mention};
 use jm_events::Names;
 use jm_lines::{position_of, text};
@@ -118,7 +118,7 @@ fn event_of<'a>(
         }
     }
     let event = new_event(catalog, position, word, objects)?;
-    known.keep(Known {
+    known.keep(KnownWord {
         word,
         count: objects.len(),
         event,

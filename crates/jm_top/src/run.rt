@@ -95,7 +95,7 @@ pub(crate) fn run_all<R: Threads + Wait + Sync, G: Gate>(
     let Library { specs, catalog } = library;
     let seats = scripts.list.len() as u32;
     let made = dispatchers(alloc, specs, scripts.objects.len(), seats)?;
-    let Watched { titles, watches } = made;
+    let TitledDispatchers { titles, watches } = made;
     let props = run_with_notes(
         rt,
         alloc,
@@ -113,7 +113,7 @@ pub(crate) fn run_all<R: Threads + Wait + Sync, G: Gate>(
 
 /// The titles of each specification, and its dispatcher with a seat for each script.
 #[derive(Drop)]
-struct Watched {
+struct TitledDispatchers {
     titles: Vec<Titles>,
     watches: Vec<Running<Rules>>,
 }
@@ -124,7 +124,7 @@ fn dispatchers(
     specs: Vec<Loaded>,
     objects: u32,
     seats: u32,
-) -> Result<Watched, NoMemory>
+) -> Result<TitledDispatchers, NoMemory>
     requires { (1 ≤ seats) × (seats ≤ 16) }
     ensures titles { IfOk result (λ w. w.titles.items ≡ map (λ l. l.titles) specs.items) }
     ensures watches { IfOk result (λ w. AreWatchesOf objects seats specs.items (map (λ r. r.watch) w.watches.items)
@@ -138,7 +138,7 @@ fn dispatchers(
         watches.push(watch)?;
         titles.push(own)?;
     }
-    Ok(Watched { titles, watches })
+    Ok(TitledDispatchers { titles, watches })
 }
 
 /// A dispatcher by these rules, with its seats.

@@ -1,7 +1,7 @@
 use Rattle.std.proofs.Common.{◌≡◌, ◌<◌, ◌≤◌, ◌+◌, length, get_or, arith}
 use Rattle.std.proofs.lemmas.Bool.Decides.{nat_tests}
 use Rattle.jm_marks.proofs.FlagLemmas.{together, flag_of_spot}
-use Rattle.jm_marks.proofs.watch.Watch.are_quiet.Goals as goal
+use Rattle.jm_marks.proofs.watch.Spots.are_quiet.Goals as goal
 
 pub loop-at-preserved : goal.loop-at-preserved
 loop-at-preserved c =

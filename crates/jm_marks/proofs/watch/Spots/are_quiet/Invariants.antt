@@ -1,5 +1,5 @@
 use Rattle.std.proofs.Common.{ℕ, ◌<◌, ◌≤◌, get_or}
-use Rattle.jm_marks.proofs.watch.Watch.are_quiet.Given as goal
+use Rattle.jm_marks.proofs.watch.Spots.are_quiet.Given as goal
 
 abbrev pub invariant-loop-at : goal.invariant-loop-at
 invariant-loop-at l = record {

@@ -1,6 +1,6 @@
 use Rattle.std.proofs.Common.{◌<◌, length}
 use Rattle.jm_marks.proofs.FlagLemmas.{removed_low}
-use Rattle.jm_marks.proofs.watch.Watch.remove.Goals as goal
+use Rattle.jm_marks.proofs.watch.Spots.remove.Goals as goal
 
 pub invariant_of-self : goal.invariant_of-self
 invariant_of-self c =
