@@ -7,13 +7,13 @@ use crate::formula::Node;
 use jm_model::{Counted, SpecError, SpecFault};
 use jm_reading::GrammarWords;
 
-const MAX_NODES: usize = 256;
+const MAX_FORMULA_NODES: usize = 256;
 
 /// There are at most 256 nodes.
 pub(crate) fn check_nodes(nodes: &[Node]) -> Result<(), SpecError>
     ensures { Checks result (nodes_fault (length nodes.now)) }
 {
-    if nodes.len() > MAX_NODES {
+    if nodes.len() > MAX_FORMULA_NODES {
         let what = Counted::Nodes;
         return Err(SpecError::Bad(SpecFault::TooMany { what }));
     }

@@ -97,12 +97,12 @@ fn history_of<M: Monitor>(
     ensures replayed { IfOk result (λ parts.
         IsReplayOf (M.meaning (M.definition rules)) (steps_in 0 blocks.items) parts.1) }
 {
-    let prop = replayed(alloc, rules, blocks, objects)?;
+    let prop = core_after(alloc, rules, blocks, objects)?;
     Ok(prop.into_parts())
 }
 
 /// The core after the steps in these blocks, which one caller does. Each block is let go once it is done.
-fn replayed<M: Monitor>(
+fn core_after<M: Monitor>(
     alloc: Global,
     rules: M,
     blocks: Vec<Block>,

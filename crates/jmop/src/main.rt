@@ -20,7 +20,7 @@ fn main(rt: HostRuntime) -> ExitCode {
         Ok(words) => {
             let mut files = HostFolder::new(rt);
             let mut out = HostSink::new(rt);
-            carry_out(&rt, alloc, &words, &mut files, &mut out, &mut err)
+            run_command(&rt, alloc, &words, &mut files, &mut out, &mut err)
         }
         Err(error) => refuse(alloc, status_of(error.kind()), &mut err),
     };
@@ -28,7 +28,7 @@ fn main(rt: HostRuntime) -> ExitCode {
 }
 
 /// Does what the words say, over real files. It has no clause, so that what the top call promises ends here.
-fn carry_out<F: Folder, S: Sink, E: Sink>(
+fn run_command<F: Folder, S: Sink, E: Sink>(
     rt: &(impl Threads + Wait + Sync),
     alloc: Global,
     words: &[String],

@@ -1,7 +1,7 @@
 use Rattle.jm_semantics.specs.Legality.{IsLegal}
 use Rattle.jm_core.specs.Replays.{Replayed}
 use Rattle.jm_script.specs.Blocks.{steps_in}
-use Rattle.jm_top.proofs.replay.replayed.Given as goal
+use Rattle.jm_top.proofs.replay.core_after.Given as goal
 
 abbrev pub invariant-loop-block : goal.invariant-loop-block
 invariant-loop-block g l = record {

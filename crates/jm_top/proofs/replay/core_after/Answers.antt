@@ -10,7 +10,7 @@ use Rattle.jm_semantics.specs.Scripts.{projection_of}
 use Rattle.jm_script.specs.Projections.{script_of}
 use Rattle.jm_script.specs.Blocks.{steps_in}
 use Rattle.jm_top.proofs.HistoryLemmas.{replay_of, replayed_none, replayed_more, steps_of_block, steps_in-more, map_same}
-use Rattle.jm_top.proofs.replay.replayed.Goals as goal
+use Rattle.jm_top.proofs.replay.core_after.Goals as goal
 
 pub replay-requires : goal.replay-requires
 replay-requires g c =
