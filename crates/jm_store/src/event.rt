@@ -1,11 +1,11 @@
 //! What an event makes of one stored monitor.
-ghost use Rattle.std.specs.Prelude.{◌≡◌, ◌<◌, ℕ, List, IfOk, OnOk, IsTrue, ◌↔◌, Contains, true, false, ◌==◌, bit_and};
+ghost use Rattle.std.specs.Prelude.{◌≡◌, ◌<◌, ℕ, List, IfOk, IsTrue, ◌↔◌, Contains, true, false, ◌==◌, bit_and};
 ghost use Rattle.std.specs.Int.{bit_at};
 ghost use Rattle.jm_model.specs.Bindings.{is_compatible, is_below, mask_of, join as union};
 ghost use Rattle.jm_model.specs.Meanings.{IsHit};
 ghost use Rattle.jm_marks.specs.Marks.{dead_mask_of};
 ghost use Rattle.jm_monitors.specs.Steps.{IsResting, IsAliveState};
-ghost use Rattle.jm_store.specs.Moves.{IsNext, IsRead, IsPushed, is_asked};
+ghost use Rattle.jm_store.specs.Moves.{IsRead, is_asked};
 
 use crate::moves::{Move, is_resting};
 use jm_marks::{Marks, dead_mask};
@@ -60,28 +60,6 @@ impl<M: Monitor> Event<'_, M> {
         mask & domain == mask || (!self.known && (ending >> self.letter.0) % 2 != 1)
     }
 
-    /// Puts what the monitor of a slot becomes, or the new instance that it makes, at the end of the moves, if it does
-    /// either. One that is at rest is passed over.
-    pub(crate) fn add_outcome(
-        &self,
-        slot: usize,
-        base: &Stored<M::State>,
-        moves: &mut Vec<Move<M::State>>,
-    ) -> Result<(), NoMemory>
-        requires letter { self.now.letter.0 < (M.meaning (M.definition self.now.rules.now)).letters }
-        requires known { IsTrue self.now.known ↔ Contains self.now.marks.now.list self.now.binding.now }
-        requires compatible { IsTrue (is_compatible base.now.instance self.now.binding.now) }
-        ensures { OnOk result (IsPushed
-            (IsRead (M.meaning (M.definition self.now.rules.now)) (M.StandsFor self.now.rules.now)
-            self.now.letter.0 self.now.binding.now self.now.objects.now self.now.marks.now.list slot)
-            base.now moves.old.items moves.new.items) }
-    {
-        if let Some(step) = self.outcome(slot, base)? {
-            moves.push(step)?;
-        }
-        Ok(())
-    }
-
     /// What the monitor of a slot becomes, or the new instance that it makes, if it does either. One that is at rest is
     /// passed over.
     #[inline(always)]
@@ -103,7 +81,9 @@ impl<M: Monitor> Event<'_, M> {
             if self.rests(base) {
                 return Ok(None);
             }
-            let (state, stays) = self.advance(&base.instance, &base.state)?;
+            let state = self.rules.next(&base.state, self.letter)?;
+            let dead = dead_mask(self.objects, &base.instance);
+            let stays = !self.rules.cut(&state, dead);
             return Ok(Some(Move {
                 slot: Some(slot),
                 monitor: Stored {
@@ -117,7 +97,9 @@ impl<M: Monitor> Event<'_, M> {
         if self.known || !self.marks.covers(&instance, &base.instance) {
             return Ok(None);
         }
-        let (state, stays) = self.advance(&instance, &base.state)?;
+        let state = self.rules.next(&base.state, self.letter)?;
+        let dead = dead_mask(self.objects, &instance);
+        let stays = !self.rules.cut(&state, dead);
         if self.is_lost(&state, stays) {
             return Ok(None);
         }
@@ -126,19 +108,6 @@ impl<M: Monitor> Event<'_, M> {
             monitor: Stored { instance, state },
             stays,
         }))
-    }
-
-    /// The state of an instance, moved on from a base, and whether the instance isn't cut then.
-    #[inline(always)]
-    fn advance(&self, instance: &Binding, base: &M::State) -> Result<(M::State, bool), NoMemory>
-        requires { self.now.letter.0 < (M.meaning (M.definition self.now.rules.now)).letters }
-        ensures { IfOk result (λ next. IsNext (M.meaning (M.definition self.now.rules.now))
-            (M.StandsFor self.now.rules.now)
-            self.now.letter.0 self.now.objects.now instance.now base.now next.0 next.1) }
-    {
-        let state = self.rules.next(base, self.letter)?;
-        let stays = !self.rules.cut(&state, dead_mask(self.objects, instance));
-        Ok((state, stays))
     }
 
     /// Whether the event leaves a monitor as it is, if it moves it, and no dead object cuts it.

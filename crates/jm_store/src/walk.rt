@@ -305,7 +305,10 @@ impl<M: Monitor> Walk<'_, M> {
             self.now.event.now.objects.now self.now.event.now.marks.now.list (monitors_of self.now.slots.items.now))
             slot moves.old.items moves.new.items) }
     {
-        self.event.add_outcome(slot, base, moves)
+        if let Some(step) = self.event.outcome(slot, base)? {
+            moves.push(step)?;
+        }
+        Ok(())
     }
 
     /// Whether nothing is dead of an instance above the event's binding.

@@ -3,13 +3,13 @@ ghost use Rattle.std.specs.Prelude.{◌≡◌, ℕ, ◌+◌, ◌<◌, ◌≤◌,
 ghost use Rattle.jm_model.specs.Bindings.{empty, is_compatible};
 ghost use Rattle.jm_index.specs.Index.{AreLive, IsFitting};
 ghost use Rattle.jm_store.specs.Slots.{monitor_at};
-ghost use Rattle.jm_store.specs.Moves.{AreGiven, IsReadAt, IsPushed, IsCompatibleAt, AreMovesRead, asks_by, EndsFewer, AreEnding, reached_by};
+ghost use Rattle.jm_store.specs.Moves.{AreGiven, IsReadAt, IsCompatibleAt, AreMovesRead, asks_by, EndsFewer, AreEnding, reached_by};
 ghost use Rattle.jm_store.specs.Contents.{stored_of, with_ending};
 ghost use Rattle.jm_store.specs.Plans.{CanPlan, Plans};
 
 use super::Store;
 use crate::ending::end_fewer_by;
-use crate::event::{Call, Event, KnownCall};
+use crate::event::{Call, Event};
 use crate::moves::{Move, Plan};
 use crate::report::report;
 use jm_model::{Binding, Letter, Monitor, NoMemory, Steps};
@@ -78,44 +78,18 @@ impl<M: Monitor> Store<M> {
     {
         let moves = self.take_moves();
         let mut slots = self.take_slots();
-        let asked = KnownCall { call, known };
-        let plan = self.plan_in(&asked, steps, &mut slots, moves);
-        self.give_slots(slots);
-        plan
-    }
-
-    /// Works out an event as `plan` does, in room that is lent for slots and moves.
-    #[tactic(auto, using(crate::proofs::PlanLemmas::plans_untouched))]
-    fn plan_in<L: Ledger>(
-        &mut self,
-        asked: &KnownCall<'_, M>,
-        steps: &mut Steps<L>,
-        slots: &mut Vec<usize>,
-        moves: Vec<Move<M::State>>,
-    ) -> Result<Plan<M::State>, NoMemory>
-        requires can { CanPlan (M.meaning (M.definition asked.now.call.now.rules.now)) asked.now.call.now.objects.now
-            asked.now.call.now.letter.0 asked.now.call.now.binding.now self.old }
-        requires known { IsTrue asked.now.known ↔ Contains self.old.marks asked.now.call.now.binding.now }
-        requires none { moves.items ≡ [] }
-        ensures plans { Plans (M.meaning (M.definition asked.now.call.now.rules.now)) (M.StandsFor
-            asked.now.call.now.rules.now) asked.now.call.now.objects.now asked.now.call.now.letter.0
-            asked.now.call.now.binding.now self.old self.new result }
-        ensures steps { steps.new ≤ steps.old + count_by (λ s. is_compatible s.instance asked.now.call.now.binding.now)
-            (stored_of self.old) }
-    {
-        let call = asked.call;
-        slots.clear();
-        make_room(slots, self.monitors.count_slots())?;
         let event = Event {
             rules: call.rules,
             objects: call.objects,
             marks: &self.marks,
             letter: call.letter,
             binding: call.binding,
-            known: asked.known,
+            known,
         };
-        let (moves, met) = self.reach(&event, slots, moves, steps)?;
-        self.plan_of(call, asked.known, moves, met)
+        let reached = self.reach(&event, &mut slots, moves, steps);
+        self.give_slots(slots);
+        let (moves, met) = reached?;
+        self.plan_of(call, known, moves, met)
     }
 
     /// Opens the plan of an event that makes these moves, and met the given number of monitors.
@@ -169,7 +143,7 @@ impl<M: Monitor> Store<M> {
         self.moves = moves;
     }
 
-    /// What the event makes of the stored monitors, and how many it met.
+    /// What the event makes of the stored monitors, and how many it met. The slots are room that is lent.
     fn reach<L: Ledger>(
         &self,
         event: &Event<'_, M>,
@@ -191,6 +165,8 @@ impl<M: Monitor> Store<M> {
         ensures steps { steps.new ≤ steps.old + count_by (λ s. is_compatible s.instance event.now.binding.now)
             (stored_of self.now) }
     {
+        slots.clear();
+        make_room(slots, self.monitors.count_slots())?;
         let mut met = 0_usize;
         for domain in &self.domains {
             if event.asks(self.ending[*domain as usize], *domain) {
@@ -226,32 +202,13 @@ impl<M: Monitor> Store<M> {
         ensures steps { steps.new ≤ steps.old + length slots.now }
     {
         for slot in slots {
-            self.reach_slot(event, *slot, moves, steps)?;
+            if let Some(base) = self.monitors.lend(*slot, steps) {
+                if let Some(step) = event.outcome(*slot, base)? {
+                    moves.push(step)?;
+                }
+            }
         }
         Ok(())
-    }
-
-    /// What it makes of the one in a slot.
-    fn reach_slot<L: Ledger>(
-        &self,
-        event: &Event<'_, M>,
-        slot: usize,
-        moves: &mut Vec<Move<M::State>>,
-        steps: &mut Steps<L>,
-    ) -> Result<(), NoMemory>
-        requires letter { event.now.letter.0 < (M.meaning (M.definition event.now.rules.now)).letters }
-        requires known { IsTrue event.now.known ↔ Contains event.now.marks.now.list event.now.binding.now }
-        requires compatible { IsCompatibleAt event.now.binding.now (monitor_at self.now.monitors slot) }
-        ensures moves { OnOk result (IsPushed
-            (IsReadAt (M.meaning (M.definition event.now.rules.now))
-            (M.StandsFor event.now.rules.now) event.now.letter.0 event.now.binding.now
-            event.now.objects.now event.now.marks.now.list self.now.monitors) slot moves.old.items moves.new.items) }
-        ensures steps { steps.new ≤ steps.old + 1 }
-    {
-        let Some(base) = self.monitors.lend(slot, steps) else {
-            return Ok(());
-        };
-        event.add_outcome(slot, base, moves)
     }
 
     /// Keeps of the letters that end monitors those that end the moved ones too.
