@@ -1,8 +1,9 @@
 -- Lists of what a relation gives for the elements of another.
-use Rattle.std.proofs.Common.{◌≡◌, ℕ, suc, ◌+◌, ◌<◌, inl, inr, List, [], ◌∷◌, ◌++◌, length, take, map, get_or, refl, sym, ap, ◌∙◌, subst, append_assoc, arith}
+use Rattle.std.proofs.Common.{◌≡◌, ℕ, suc, ◌+◌, ◌<◌, inl, inr, false, List, [], ◌∷◌, ◌++◌, length, take, map, get_or, refl, sym, ap, ◌∙◌, subst, append_assoc, append-nil, arith}
 use Rattle.std.specs.Prelude.{Option, Some, None, Contains, AllPairs, All}
 use Rattle.std.specs.List.{cons_option}
-use Rattle.std.specs.Option.{option_to_list}
+use Rattle.std.specs.Option.{is_some, option_to_list}
+use Rattle.std.proofs.lemmas.Bool.{false≢true}
 use Rattle.std.proofs.lemmas.List.{take_more, get_or_default}
 use Rattle.std.proofs.lemmas.List.Elements.{Contains-append_cases}
 use Rattle.std.proofs.lemmas.List.Kept.{AllPairs-cons}
@@ -30,6 +31,15 @@ module _ {X Y : Type 0} (R : X → Option Y → Type 0) where
   pushed_next before xs i x old new lt given more =
       subst (λ (l : List X). AreGiven R l new) (append_assoc before (take i xs) (get_or xs i x ∷ []) ∙ ap (λ (l : List X). before ++ l) (sym (take_more xs i x lt)))
       (pushed (before ++ take i xs) (get_or xs i x) old new given more)
+
+  -- the first one that is given, and none that is given
+  pub first_pushed : (x : X) (old found : Option Y) → is_some old ≡ false → R x found → IsPushed R x (option_to_list old) (option_to_list found)
+  first_pushed x None found none gives = (found, gives, refl)
+  first_pushed x (Some y) found none gives = absurd (false≢true (sym none))
+
+  pub none_pushed : (x : X) (old : List Y) (found : Option Y) → is_some found ≡ false → R x found → IsPushed R x old old
+  none_pushed x old None none gives = (None, gives, sym (append-nil old))
+  none_pushed x old (Some y) none gives = absurd (false≢true (sym none))
 
   -- each one is given for an element
   pub given_each : (xs : List X) (ys : List Y) (y : Y) → AreGiven R xs ys → Contains ys y → (x : X) × Contains xs x × R x (Some y)

@@ -7,7 +7,7 @@ ghost use Rattle.jm_index.specs.Index.{Pair, asked_slots, AreBelow, AreLive, IsF
 ghost use Rattle.jm_monitors.specs.declared.stored.Stored.{Stored as Kept};
 ghost use Rattle.jm_monitors.specs.Steps.{AreMarksAfter};
 ghost use Rattle.jm_store.specs.Slots.{monitor_at};
-ghost use Rattle.jm_store.specs.Moves.{AreGiven, IsReadAt, IsPushed, IsCompatibleAt, AreMovesRead, asks_by, EndsFewer, IsEnding};
+ghost use Rattle.jm_store.specs.Moves.{AreGiven, IsReadAt, IsCompatibleAt, AreMovesRead, asks_by, EndsFewer, IsEnding};
 ghost use Rattle.jm_store.specs.Contents.{stored_of, with_ending, with_open, IsFit, IsFilled, ArePlaced, ArePaired, IsPlacedOne, KeepsContents, KeepsAllButMarks, StaysClosed, StaysFit, IsAbove};
 ghost use Rattle.jm_store.specs.Listed.{KeepListed};
 ghost use Rattle.jm_store.specs.Plans.{CanPlan, Advances, IsSilent, IsStepDone, IsSlotDone};
@@ -77,44 +77,18 @@ impl<M: Monitor> Store<M> {
     {
         let mut slots = self.take_slots();
         let asked = KnownCall { call, known };
-        let done = self.advance_in(&asked, awake, &mut slots, steps);
+        let done = if known {
+            match self.only_slot_above(call.objects, call.binding, &mut slots) {
+                Some(Some(slot)) => self.advance_slot(call, awake, slot, steps),
+                Some(None) => Some(Done::nothing(*self.domains.allocator())),
+                None if slots.len() > MANY => None,
+                None => self.advance_only(&asked, awake, &mut slots, steps),
+            }
+        } else {
+            self.advance_only(&asked, awake, &mut slots, steps)
+        };
         self.give_slots(slots);
         done
-    }
-
-    /// Does an event as `advance_one` does, in room that is lent for slots.
-    fn advance_in<L: Ledger>(
-        &mut self,
-        asked: &KnownCall<'_, M>,
-        awake: &mut Awake,
-        slots: &mut Vec<usize>,
-        steps: &mut Steps<L>,
-    ) -> Option<Done>
-        requires can { CanPlan (M.meaning (M.definition asked.now.call.now.rules.now)) asked.now.call.now.objects.now
-            asked.now.call.now.letter.0 asked.now.call.now.binding.now self.old }
-        requires known { IsTrue asked.now.known ↔ Contains self.old.marks asked.now.call.now.binding.now }
-        ensures advances { Advances (M.meaning (M.definition asked.now.call.now.rules.now)) (M.StandsFor
-            asked.now.call.now.rules.now) asked.now.call.now.objects.now asked.now.call.now.letter.0
-            asked.now.call.now.binding.now self.old self.new result }
-        ensures listed { KeepListed (M.meaning (M.definition asked.now.call.now.rules.now)) (M.StandsFor
-            asked.now.call.now.rules.now) asked.now.call.now.objects.now self.old.monitors self.new.monitors awake.old
-            awake.new }
-        ensures steps { steps.new ≤ steps.old + count_by (λ s. is_compatible s.instance asked.now.call.now.binding.now)
-            (stored_of self.old) }
-    {
-        let call = asked.call;
-        if asked.known {
-            if let Some(above) = self.only_slot_above(call.objects, call.binding, slots) {
-                return match above {
-                    Some(slot) => self.advance_slot(call, awake, slot, steps),
-                    None => Some(Done::nothing(*self.domains.allocator())),
-                };
-            }
-            if slots.len() > MANY {
-                return None;
-            }
-        }
-        self.advance_only(asked, awake, slots, steps)
     }
 
     /// The slot of the only monitor above a binding, or that there is none. Where several are or may be, since several
@@ -327,42 +301,17 @@ impl<M: Monitor> Store<M> {
         ensures steps { steps.new ≤ steps.old + length slots.now }
     {
         for slot in slots {
-            self.find_at(event, *slot, only, steps)?;
-        }
-        Some(())
-    }
-
-    /// Looks whether the event makes something of the monitor of a slot, and puts it into `only`. Where something was
-    /// found before, or out of memory, it can't be told.
-    #[inline(always)]
-    fn find_at<L: Ledger>(
-        &self,
-        event: &Event<'_, M>,
-        slot: usize,
-        only: &mut Option<Move<M::State>>,
-        steps: &mut Steps<L>,
-    ) -> Option<()>
-        requires letter { event.now.letter.0 < (M.meaning (M.definition event.now.rules.now)).letters }
-        requires known { IsTrue event.now.known ↔ Contains event.now.marks.now.list event.now.binding.now }
-        requires compatible { IsCompatibleAt event.now.binding.now (monitor_at self.now.monitors slot) }
-        ensures read { IfSome result (λ done. IsPushed
-            (IsReadAt (M.meaning (M.definition event.now.rules.now))
-            (M.StandsFor event.now.rules.now) event.now.letter.0 event.now.binding.now
-            event.now.objects.now event.now.marks.now.list self.now.monitors) slot
-            (option_to_list only.old) (option_to_list only.new)) }
-        ensures steps { steps.new ≤ steps.old + 1 }
-    {
-        let Some(base) = self.monitors.lend(slot, steps) else {
-            return Some(());
-        };
-        let Ok(found) = event.outcome(slot, base) else {
-            return None;
-        };
-        if found.is_some() {
-            if only.is_some() {
-                return None;
+            if let Some(base) = self.monitors.lend(*slot, steps) {
+                let Ok(found) = event.outcome(*slot, base) else {
+                    return None;
+                };
+                if found.is_some() {
+                    if only.is_some() {
+                        return None;
+                    }
+                    *only = found;
+                }
             }
-            *only = found;
         }
         Some(())
     }
