@@ -26,7 +26,8 @@ use Rattle.jm_monitors.proofs.DeathLemmas.{object-placed, cut_by_own_death-lem}
 use Rattle.jm_store.specs.declared.moves.Move.{Move}
 use Rattle.jm_store.specs.Slots.{monitors_of, monitor_at, stored_in}
 use Rattle.jm_store.specs.Moves.{IsAtRest, IsRead, IsReadIn, IsReadAt, AreGiven, AreMovesRead, AreVisited, after_move, after_moves, AreApart, has_all, asks_by, ends_all}
-use Rattle.jm_store.specs.Listed.{occupant_for, occupant_of, occupants_of, slots_listed, RestsAt, RestsIn, AreListedBut, AreListed, AreOthersAtRest, Comes, IsInAll, IsFor}
+use Rattle.jm_store.specs.Listed.{occupant_for, occupant_of, occupants_of, slots_listed, RestsAt, RestsIn, AreListedBut, AreListed, AreOthersAtRest, Comes, HasList, IsInAll, IsFor}
+use Rattle.jm_store.specs.Walks.{AreAmong, AreReadable}
 use Rattle.jm_store.proofs.GivenLemmas.{pairs_none, pairs_cons, pairs_append, pairs_head, pairs_tail, given_all, Contains-from_map}
 use Rattle.jm_store.proofs.SlotLemmas.{place_of}
 use Rattle.jm_store.proofs.CommitLemmas.{housed_within}
@@ -494,6 +495,38 @@ listed_above m {S} Stands dead q monitors lists place e b of listed k has =
     let (x, among, slot) = Contains-from_map (λ (y : Listed). y.slot) (filter (is_there lists.cards) (list_at lists place).entries) k has in
     let (s, at, below) = listed_each m Stands dead q monitors lists place e b of listed x (filtered_from (is_there lists.cards) (list_at lists place).entries x among) (filtered_passes (is_there lists.cards) (list_at lists place).entries x among) in
     (s, subst (λ (n : ℕ). monitor_at monitors n ≡ Some s) slot at, below)
+
+-- the event of a list can read its entries
+pub listed_readable : (m : Meaning) {S : Type 0} (Stands : S → List ℕ → Type 0) (dead : List Bool) (monitors : List (Option (Stored S))) (lists : Lists) (place e : ℕ) (b : Binding) (marks : List Binding) (ending : List ℕ) (ends : ℕ)
+    → HasList m Stands dead e b marks monitors lists place → ((k : ℕ) (s : Stored S) → monitor_at monitors k ≡ Some s → is_below b s.instance ≡ true → AreAmong ending (mask_of s.instance) ends)
+    → AreReadable b e ending ends lists monitors (list_at lists place).entries
+listed_readable m Stands dead monitors lists place e b marks ending ends list among = λ x has. (
+  (list.listed.sound.each place x list.of_event.kept has).within,
+  λ there.
+      let (s, at, below) = listed_each m Stands dead None monitors lists place e b list.of_event list.listed x has there in
+      let on = listed_on m Stands dead None monitors lists place e b list.of_event list.listed refl x has there in
+      (on, (s, at, below, among x.slot s at below)),
+)
+
+-- what the event makes of the monitors of its list is all that it makes
+pub listed_moves : (m : Meaning) {S : Type 0} (Stands : S → List ℕ → Type 0) (dead : List Bool) (monitors : List (Option (Stored S))) (lists : Lists) (place e : ℕ) (b : Binding) (marks : List Binding) (ending : List ℕ)
+    → HasList m Stands dead e b marks monitors lists place → (moves : List (Move S)) → AreGiven (IsReadAt m Stands e b dead marks monitors) (slots_listed lists place) moves → AreMovesRead m Stands e b dead marks (asks_by true ending e b) monitors moves
+listed_moves m Stands dead monitors lists place e b marks ending list moves given =
+    listed_all b monitors m Stands e dead marks ending (slots_listed lists place) moves (listed_apart m Stands dead None monitors lists place e b list.of_event list.listed)
+    (listed_above m Stands dead None monitors lists place e b list.of_event list.listed) given (listed_rest m Stands dead None monitors lists place e b list.of_event list.listed)
+
+-- it has at most as many as are compatible with the event's binding
+pub listed_counted : (m : Meaning) {S : Type 0} (Stands : S → List ℕ → Type 0) (dead : List Bool) (monitors : List (Option (Stored S))) (lists : Lists) (place e : ℕ) (b : Binding) (marks : List Binding)
+    → HasList m Stands dead e b marks monitors lists place → length (slots_listed lists place) ≤ count_by (λ (s : Stored S). is_compatible s.instance b) (stored_in monitors)
+listed_counted m Stands dead monitors lists place e b marks list =
+    above_counted b monitors (slots_listed lists place) (listed_apart m Stands dead None monitors lists place e b list.of_event list.listed)
+    (listed_above m Stands dead None monitors lists place e b list.of_event list.listed)
+
+-- where the list at a place was tidied, lists that told of the monitors but for that one tell of them all
+pub listed_tidied : (m : Meaning) {S : Type 0} (Stands : S → List ℕ → Type 0) (dead : List Bool) (monitors : List (Option (Stored S))) (place : ℕ) (old new : Lists)
+    → ((q : Option ℕ) (o : Occupants) → (q ≡ None) ⊎ (q ≡ Some place) → AreSoundBut q o old → AreSound o new) → AreStill None old new → AreListedBut m Stands dead (Some place) monitors old → AreListed m Stands dead monitors new
+listed_tidied m Stands dead monitors place old new sound still listed =
+    listed_still m Stands dead (Some place) None monitors old new (sound (Some place) (occupants_of monitors) (inr refl) listed.sound) still listed
 
 -- a move of a plan is for its slot
 pub for_plan : {S : Type 0} (slots : List (Slot S)) (pairs : List Pair) (move : Move S) → IsHoused slots pairs → ((k : ℕ) → move.slot ≡ Some k → Contains pairs (record { binding = move.monitor.instance; slot = k }))

@@ -5,13 +5,11 @@ ghost use Rattle.std.specs.Prelude.{false, IfSome, length, slice_get, slice_inde
 ghost use Rattle.std.specs.Int.{bit_at};
 ghost use Rattle.jm_model.specs.Bindings.{is_below, mask_of, object_at};
 ghost use Rattle.jm_model.specs.Numbers.{no_number, at_rest};
-ghost use Rattle.jm_awake.specs.Awake.{fresh, list_at, slots_there, IsOn, IsListOf};
+ghost use Rattle.jm_awake.specs.Awake.{fresh, slots_there, IsOn};
 ghost use Rattle.jm_index.specs.Index.{AreLive};
 ghost use Rattle.jm_marks.specs.Marks.{dead_mask_of, is_dead_object};
-ghost use Rattle.jm_monitors.specs.declared.stored.Stored.{Stored as Kept};
 ghost use Rattle.jm_store.specs.Slots.{monitors_of, monitor_at};
 ghost use Rattle.jm_store.specs.Moves.{AreNone, AreSifted, IsPushed, IsReadAt};
-ghost use Rattle.jm_store.specs.Listed.{slots_listed, HasList};
 ghost use Rattle.jm_store.specs.Walks.{AreRows, AreAliveBut, EndsAll, IsShiftAt, no_turn, AreTurns, EndsLike};
 ghost use Rattle.jm_store.specs.Walks.{AreAmong, AreReadable, AsksAll, CanWalk, IsTold};
 ghost use Rattle.jm_store.specs.declared.walk.Told.TheVariants.{Shifts, Nothing};
@@ -54,9 +52,9 @@ pub(crate) enum Told {
 /// What is asked of a monitor that gets a shift: of which letters its slot has to be in the lists, beside that of the
 /// event, and at which parameters its objects have to be alive.
 #[derive(Clone, Copy)]
-struct Asked {
-    letters: u32,
-    params: u8,
+pub(crate) struct Asked {
+    pub(crate) letters: u32,
+    pub(crate) params: u8,
 }
 
 /// Room for what an event makes of the monitors of a list, sorted in three: shifts, which stand in front, moves, and
@@ -95,60 +93,26 @@ impl Turn {
 }
 
 impl<M: Monitor> Walk<'_, M> {
-    /// Reads the monitors of a list. Those of which their numbers tell what becomes of them get shifts, at the front of
-    /// these, or are noted as resting, and the others get moves. Answers how many shifts there are, unless out of
-    /// memory.
+    /// What is asked of monitors above the event's binding that get shifts: nothing where no other letter has a list,
+    /// and no object is dead.
     #[inline(always)]
-    pub(crate) fn read_list<L: Ledger>(
-        &self,
-        place: usize,
-        sifted: &mut Sifted<M::State>,
-        steps: &mut Steps<L>,
-    ) -> Option<usize>
-        requires can { CanWalk (M.meaning (M.definition self.now.event.now.rules.now)) (M.StandsFor
-            self.now.event.now.rules.now) (M.HasNumber self.now.event.now.rules.now) self.now.event.now.letter.0
-            self.now.plain.now self.now.endings.now self.now.event.now.known self.now.event.now.marks.now.list
-            self.now.event.now.binding.now }
+    pub(crate) fn asked(&self) -> Asked
+        requires low { self.now.event.now.letter.0 < (M.meaning (M.definition self.now.event.now.rules.now)).letters }
         requires live { AreLive self.now.event.now.objects.now self.now.event.now.binding.now }
-        requires list { HasList (M.meaning (M.definition self.now.event.now.rules.now)) (M.StandsFor
-            self.now.event.now.rules.now) self.now.event.now.objects.now self.now.event.now.letter.0
-            self.now.event.now.binding.now self.now.event.now.marks.now.list (monitors_of self.now.slots.items.now)
-            self.now.awake.now place }
-        requires ends { (k : ℕ) (s : Kept M.State) → monitor_at (monitors_of self.now.slots.items.now) k ≡ Some s
-            → is_below self.now.event.now.binding.now s.instance ≡ true
-            → AreAmong self.now.ending.now (mask_of s.instance) self.now.ends }
-        requires room { length (list_at self.now.awake.now place).entries ≤ length sifted.old.shifts.items }
-        requires none { AreNone sifted.old.moves.items sifted.old.rests.items }
-        ensures sifted { IfSome result (λ count. (count ≤ length sifted.new.shifts.items) × AreSifted (IsShiftAt
-            (M.meaning (M.definition self.now.event.now.rules.now)) (M.StandsFor self.now.event.now.rules.now)
-            (M.HasNumber self.now.event.now.rules.now) self.now.event.now.letter.0 self.now.event.now.objects.now
-            self.now.event.now.binding.now self.now.ending.now self.now.awake.now (monitors_of
-            self.now.slots.items.now)) (IsReadAt (M.meaning (M.definition self.now.event.now.rules.now)) (M.StandsFor
-            self.now.event.now.rules.now) self.now.event.now.letter.0 self.now.event.now.binding.now
-            self.now.event.now.objects.now self.now.event.now.marks.now.list (monitors_of self.now.slots.items.now))
-            (slots_listed self.now.awake.now place) (take count sifted.new.shifts.items) sifted.new.moves.items
-            sifted.new.rests.items) }
-        ensures steps { steps.new ≤ steps.old + length (slots_listed self.now.awake.now place) }
+        ensures { AsksAll self.now.event.now.objects.now self.now.event.now.binding.now self.now.event.now.letter.0
+            self.now.awake.now.letters result }
     {
-        let entries = self.awake.entries(place);
         let _letters = self.event.rules.letters();
         let letters = self.awake.letters_but(self.event.letter);
         let params = self.free_params();
-        if letters == 0 && params == 0 {
-            let asked = Asked {
-                letters: 0,
-                params: 0,
-            };
-            return self.read_entries(entries, asked, sifted, steps);
-        }
-        let asked = Asked { letters, params };
-        self.read_entries(entries, asked, sifted, steps)
+        Asked { letters, params }
     }
 
-    /// Reads the entries of the list so. It is inlined, so that zeros which stand at the call make a loop that asks for
-    /// nothing of the kind.
+    /// Reads entries of a list. The monitors of which their numbers tell what becomes of them get shifts, at the front
+    /// of these, or are noted as resting, and the others get moves. Answers how many shifts there are, unless out of
+    /// memory. It is inlined, so that zeros which stand at the call make a loop that asks for nothing of the kind.
     #[inline(always)]
-    fn read_entries<L: Ledger>(
+    pub(crate) fn read_entries<L: Ledger>(
         &self,
         entries: &[Listed],
         asked: Asked,

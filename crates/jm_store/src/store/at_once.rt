@@ -16,7 +16,7 @@ use super::advance::Done;
 use crate::event::{Call, Event, ListedEvent};
 use crate::moves::Move;
 use crate::report::report;
-use crate::walk::{Shift, Sifted, Walk};
+use crate::walk::{Asked, Shift, Sifted, Walk};
 use jm_awake::Awake;
 use jm_model::{Binding, Firings, Letter, Monitor, Steps};
 use jm_objects::Objects;
@@ -132,7 +132,17 @@ impl<M: Monitor> Store<M> {
             ends: self.ends_above(event.binding),
             event,
         };
-        let count = walk.read_list(listed.place, sifted, steps)?;
+        let entries = awake.entries(listed.place);
+        let asked = walk.asked();
+        let count = if asked.letters == 0 && asked.params == 0 {
+            let nothing = Asked {
+                letters: 0,
+                params: 0,
+            };
+            walk.read_entries(entries, nothing, sifted, steps)?
+        } else {
+            walk.read_entries(entries, asked, sifted, steps)?
+        };
         let Ok(answer) = report(*self.domains.allocator(), rules, sifted.moves.as_slice()) else {
             return None;
         };

@@ -6,7 +6,7 @@ ghost use Rattle.jm_index.specs.Index.{AreLive, IsFitting, flag_of};
 ghost use Rattle.jm_monitors.specs.declared.stored.Stored.{Stored as Kept};
 ghost use Rattle.jm_monitors.specs.Steps.{after_death};
 ghost use Rattle.jm_store.specs.Slots.{monitor_at};
-ghost use Rattle.jm_store.specs.Moves.{after_moves, AreGiven, IsReadAt, AreMovesRead, AreVisited, asks_by, has_all};
+ghost use Rattle.jm_store.specs.Moves.{after_moves, AreGiven, IsReadAt, AreVisited, has_all};
 ghost use Rattle.jm_store.specs.Contents.{stored_of, monitors_after, AreReady, IsPlanFor};
 ghost use Rattle.jm_store.specs.Listed.{occupants_of, slots_listed, AreListed, AreListedBut, HasList, AreLeftOf, KeepEntries, KeepListed, IsInAll};
 ghost use Rattle.jm_store.specs.Plans.{CanPlan, PlansUnlessRests};
@@ -46,7 +46,7 @@ impl<M: Monitor> Store<M> {
         if awake.entries(place).is_empty() {
             return Ok(None);
         }
-        let moves = self.take_moves();
+        let mut moves = self.take_moves();
         let event = Event {
             rules: call.rules,
             objects: call.objects,
@@ -56,45 +56,15 @@ impl<M: Monitor> Store<M> {
             known: true,
         };
         let listed = ListedEvent { event, place };
-        let moves = self.reach_listed(&listed, awake, moves, steps)?;
+        let read = self.read_listed(&listed, awake, &mut moves, steps);
+        awake.tidy(place);
+        read?;
         if moves.as_slice().is_empty() {
             self.give_moves(moves);
             return Ok(None);
         }
         let plan = self.plan_of(call, true, moves, 0)?;
         Ok(Some(plan))
-    }
-
-    /// What the event makes of the monitors of its list. Those that it leaves as they are leave the list.
-    #[inline(always)]
-    fn reach_listed<L: Ledger>(
-        &self,
-        listed: &ListedEvent<'_, M>,
-        awake: &mut Awake,
-        mut moves: Vec<Move<M::State>>,
-        steps: &mut Steps<L>,
-    ) -> Result<Vec<Move<M::State>>, NoMemory>
-        requires letter { listed.now.event.letter.0 < (M.meaning (M.definition listed.now.event.rules.now)).letters }
-        requires known { IsTrue listed.now.event.known ↔ Contains listed.now.event.marks.now.list
-            listed.now.event.binding.now }
-        requires list { HasList (M.meaning (M.definition listed.now.event.rules.now)) (M.StandsFor
-            listed.now.event.rules.now) listed.now.event.objects.now listed.now.event.letter.0
-            listed.now.event.binding.now listed.now.event.marks.now.list self.now.monitors awake.old listed.now.place }
-        requires none { moves.items ≡ [] }
-        ensures moves { IfOk result (λ moves. AreMovesRead (M.meaning (M.definition listed.now.event.rules.now))
-            (M.StandsFor listed.now.event.rules.now) listed.now.event.letter.0 listed.now.event.binding.now
-            listed.now.event.objects.now listed.now.event.marks.now.list
-            (asks_by listed.now.event.known self.now.ending listed.now.event.letter.0 listed.now.event.binding.now)
-            self.now.monitors moves.items) }
-        ensures listed { AreListed (M.meaning (M.definition listed.now.event.rules.now)) (M.StandsFor
-            listed.now.event.rules.now) listed.now.event.objects.now self.now.monitors awake.new }
-        ensures steps { steps.new ≤ steps.old + count_by (λ s. is_compatible s.instance listed.now.event.binding.now)
-            (stored_of self.now) }
-    {
-        let read = self.read_listed(listed, awake, &mut moves, steps);
-        awake.tidy(listed.place);
-        read?;
-        Ok(moves)
     }
 
     /// What the event makes of the monitors of its list. Those that it leaves as they are leave the lists of the
