@@ -14,7 +14,7 @@ returns-then-not-is_at c =
     let stop = agree-stop c.args.one.now c.args.other.now c.loop-i.i c.loop-i-test.true (λ h. false≢true (sym c.if-not-is_at.true ∙ c.is_at.ensures.1 h)) in
     record {
       value = sym (sym c.loop-i.invariant.count ∙ ap (λ n. c.loop-i.lines + n) stop ∙ omega arith);
-      few = omega (arith, c.loop-i.invariant.few, c.loop-i-test.true);
+      bounded = omega (arith, c.loop-i.invariant.few, c.loop-i-test.true);
     }
 
 pub loop-i-preserved : goal.loop-i-preserved
@@ -39,5 +39,5 @@ returns c =
     let end = agree-end c.args.one.now (drop c.loop-i.i c.args.other.now) c.loop-i.i c.loop-i-test.false in
     record {
       value = sym (sym c.loop-i.invariant.count ∙ ap (λ n. c.loop-i.lines + n) end ∙ omega arith);
-      few = omega (arith, c.loop-i.invariant.few, c.loop-i.invariant.reach);
+      bounded = omega (arith, c.loop-i.invariant.few, c.loop-i.invariant.reach);
     }
