@@ -1,5 +1,5 @@
 -- What holds of what is inside a core.
-use Rattle.std.specs.Prelude.{◌≡◌, ℕ, Bool, false, List, [], ◌∷◌, ◌++◌, Option, Some, None, map, find}
+use Rattle.std.specs.Prelude.{◌≡◌, ℕ, Bool, false, List, [], ◌∷◌, ◌++◌, Option, Some, None, length, map, find}
 use Rattle.jm_model.specs.Words.{Word}
 use Rattle.jm_model.specs.Meanings.{Meaning}
 use Rattle.jm_model.specs.Bindings.{objects_of}
@@ -14,7 +14,8 @@ use Rattle.jm_semantics.specs.Legality.{IsLegal}
 use Rattle.jm_marks.specs.Marks.{is_dead_object}
 use Rattle.jm_monitors.specs.declared.stored.Stored.{Stored}
 use Rattle.jm_monitors.specs.Deaths.{AreFlagsOf}
-use Rattle.jm_monitors.specs.Steps.{NoneCutAbove}
+use Rattle.jm_index.specs.Index.{AreBelow}
+use Rattle.jm_monitors.specs.Steps.{NoneCutAbove, IsLiveEvent}
 use Rattle.jm_store.specs.Contents.{Contents, stored_of, IsFit, IsStoreAfter}
 use Rattle.jm_store.specs.Listed.{AreListed}
 use Rattle.jm_awake.specs.Awake.{Lists}
@@ -61,6 +62,16 @@ module _ (m : Meaning) {S : Type 0} (Stands : S → Word → Type 0) where
   IsOutcomeOf trace dead a before after NoMemory =
       (first_dead_by dead a.binding ≡ None) × IsUntouched trace dead before after
   IsOutcomeOf trace dead a before after _ = ⊥
+
+  -- The event a can be done. The store has no open plan and fits the objects, and the lists tell of it; the event binds
+  -- objects that are there, and it is one of the specification where none of them is dead.
+  pub record CanPerform (dead : List Bool) (a : ParametricEvent) (store : Contents S) (lists : Lists) : Type 0 where
+    pub closed : store.is_open ≡ false
+    pub fits : IsFit store dead
+    pub eight : length a.binding ≡ 8
+    pub event : first_dead_by dead a.binding ≡ None → IsLiveEvent m dead a.letter a.binding
+    pub within : AreBelow (length dead) a.binding
+    pub listed : AreListed m Stands dead store.monitors lists
 
   -- The event a came to an outcome, which is told twice. The store has no open plan and fits the objects, and the lists
   -- tell of it; of whatever trace it was one, the outcome is the event's after it.

@@ -1,11 +1,9 @@
 //! What is live of a core, and what an event comes to there.
 ghost use Rattle.std.specs.Prelude.{◌≡◌, ◌<◌, ◌↔◌, false, None, Contains, IsTrue, length};
 ghost use Rattle.jm_index.specs.Index.{AreBelow, AreLive, IsFitting};
-ghost use Rattle.jm_monitors.specs.Steps.{IsLiveEvent};
-ghost use Rattle.jm_store.specs.Contents.{IsFit};
 ghost use Rattle.jm_store.specs.Listed.{AreListed, HasList, KeepListed};
 ghost use Rattle.jm_store.specs.Plans.{CanPlan};
-ghost use Rattle.jm_core.specs.Inside.{first_dead_by, Performs};
+ghost use Rattle.jm_core.specs.Inside.{first_dead_by, CanPerform, Performs};
 
 use jm_awake::Awake;
 use jm_model::{Binding, Firings, Monitor, NoMemory, Outcome, Steps};
@@ -25,7 +23,8 @@ pub(crate) struct Live<M: Monitor> {
 
 impl<M: Monitor> Live<M> {
     /// What an event comes to, twice: it is refused where it binds a dead object, with the first one. Unless it is
-    /// answered, monitors and marks stay as they are. The counter of what it reads is made of a ledger of one part.
+    /// answered, monitors and marks stay as they are. Where there is a list of it, only the listed monitors are read.
+    /// The counter of what it reads is made of a ledger of one part.
     #[inline(always)]
     pub(crate) fn perform<L: Ledger>(
         &mut self,
@@ -36,82 +35,37 @@ impl<M: Monitor> Live<M> {
         requires name { blank.name ≡ L.name }
         requires parts { blank.parts ≡ L.parts }
         requires one { blank.parts ≡ 1 }
-        requires closed { self.old.store.is_open ≡ false }
-        requires fits { IsFit self.old.store call.now.objects.now }
-        requires eight { length call.now.binding.now ≡ 8 }
-        requires event { first_dead_by call.now.objects.now call.now.binding.now ≡ None → IsLiveEvent
-            (M.meaning (M.definition call.now.rules.now)) call.now.objects.now call.now.letter.0 call.now.binding.now }
-        requires in_range { AreBelow (length call.now.objects.now) call.now.binding.now }
-        requires listed { AreListed (M.meaning (M.definition call.now.rules.now)) (M.StandsFor call.now.rules.now)
-            call.now.objects.now self.old.store.monitors self.old.awake }
+        requires can { CanPerform (M.meaning (M.definition call.now.rules.now)) (M.StandsFor call.now.rules.now)
+            call.now.objects.now (record { letter = call.now.letter.0; binding = call.now.binding.now })
+            self.old.store self.old.awake }
         ensures { Performs (M.meaning (M.definition call.now.rules.now)) (M.StandsFor call.now.rules.now)
             call.now.objects.now (record { letter = call.now.letter.0; binding = call.now.binding.now })
             self.old.store self.new.store self.old.awake self.new.awake result }
     {
         let mut steps = Steps::<L>::new(blank);
-        match first_dead(call.objects, call.binding) {
-            Some(object) => (Outcome::Refused(object), Outcome::Refused(object)),
-            None => self.answer(alloc, call, &mut steps),
+        if let Some(object) = first_dead(call.objects, call.binding) {
+            return (Outcome::Refused(object), Outcome::Refused(object));
         }
-    }
-
-    /// What an event comes to that binds no dead object. Where there is a list of it, only the listed monitors are
-    /// read.
-    #[inline(always)]
-    fn answer<L: Ledger>(
-        &mut self,
-        alloc: Global,
-        call: &Call<M>,
-        steps: &mut Steps<L>,
-    ) -> (Outcome, Outcome)
-        requires can { CanPlan (M.meaning (M.definition call.now.rules.now)) call.now.objects.now call.now.letter.0
-            call.now.binding.now self.old.store }
-        requires live { first_dead_by call.now.objects.now call.now.binding.now ≡ None }
-        requires listed { AreListed (M.meaning (M.definition call.now.rules.now)) (M.StandsFor call.now.rules.now)
-            call.now.objects.now self.old.store.monitors self.old.awake }
-        ensures { Performs (M.meaning (M.definition call.now.rules.now)) (M.StandsFor call.now.rules.now)
-            call.now.objects.now (record { letter = call.now.letter.0; binding = call.now.binding.now })
-            self.old.store self.new.store self.old.awake self.new.awake result }
-    {
         let known = self.store.is_mark(call.binding);
         if known {
             let _letters = call.rules.letters();
             if let Some(place) = self.awake.find(call.letter, call.binding) {
-                return self.answer_by_list(alloc, call, place, steps);
+                if let Some(done) = self
+                    .store
+                    .advance_listed(call, &mut self.awake, place, &mut steps)
+                {
+                    return (Outcome::Fired(done.answer), Outcome::Fired(done.copy));
+                }
+                return self.fire_listed(alloc, call, place, &mut steps);
             }
         }
-        if let Some(done) = self.store.advance_one(call, &mut self.awake, known, steps) {
-            return (Outcome::Fired(done.answer), Outcome::Fired(done.copy));
-        }
-        self.fire(call, known, steps)
-    }
-
-    /// What an event comes to whose list was found: at once, or by a plan.
-    #[inline(always)]
-    fn answer_by_list<L: Ledger>(
-        &mut self,
-        alloc: Global,
-        call: &Call<M>,
-        place: usize,
-        steps: &mut Steps<L>,
-    ) -> (Outcome, Outcome)
-        requires can { CanPlan (M.meaning (M.definition call.now.rules.now)) call.now.objects.now call.now.letter.0
-            call.now.binding.now self.old.store }
-        requires list { HasList (M.meaning (M.definition call.now.rules.now)) (M.StandsFor call.now.rules.now)
-            call.now.objects.now call.now.letter.0 call.now.binding.now self.old.store.marks self.old.store.monitors
-            self.old.awake place }
-        requires live { first_dead_by call.now.objects.now call.now.binding.now ≡ None }
-        ensures { Performs (M.meaning (M.definition call.now.rules.now)) (M.StandsFor call.now.rules.now)
-            call.now.objects.now (record { letter = call.now.letter.0; binding = call.now.binding.now })
-            self.old.store self.new.store self.old.awake self.new.awake result }
-    {
         if let Some(done) = self
             .store
-            .advance_listed(call, &mut self.awake, place, steps)
+            .advance_one(call, &mut self.awake, known, &mut steps)
         {
             return (Outcome::Fired(done.answer), Outcome::Fired(done.copy));
         }
-        self.fire_listed(alloc, call, place, steps)
+        self.fire(call, known, &mut steps)
     }
 
     /// What an event comes to whose list was found, by a plan.

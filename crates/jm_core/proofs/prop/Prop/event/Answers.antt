@@ -16,32 +16,21 @@ use Rattle.jm_core.proofs.FireLemmas.{keeps_memory}
 use Rattle.jm_core.proofs.CoreLemmas.{core_after_event}
 use Rattle.jm_core.proofs.prop.Prop.event.Goals as goal
 
-pub perform-outcome-requires-clause-eight : goal.perform-outcome-requires-clause-eight
-perform-outcome-requires-clause-eight g c =
-    let m = g.M.Monitor.meaning (g.M.Monitor.definition c.self.inside.rules) in
-    let is : c.args.node.step ≡ Event c.in-Event.letter c.in-Event.binding = sym c.step.ensures ∙ c.in-Event.is in
-    let fits : IsEventOf m c.args.self.now.objects (Event c.in-Event.letter c.in-Event.binding) =
-    subst (λ (s : Step). IsEventOf m c.args.self.now.objects s) is
-    (subst (λ (core : Core g.row.M-Definition.Denot). IsEventOf (g.M.Monitor.meaning core.definition) c.args.self.now.objects c.args.node.step) (sym c.self.view_is) c.requires) in
-    fits.0.1
-
-pub perform-outcome-requires-clause-event : goal.perform-outcome-requires-clause-event
-perform-outcome-requires-clause-event g c =
-    let m = g.M.Monitor.meaning (g.M.Monitor.definition c.self.inside.rules) in
-    let is : c.args.node.step ≡ Event c.in-Event.letter c.in-Event.binding = sym c.step.ensures ∙ c.in-Event.is in
-    let fits : IsEventOf m c.args.self.now.objects (Event c.in-Event.letter c.in-Event.binding) =
-    subst (λ (s : Step). IsEventOf m c.args.self.now.objects s) is
-    (subst (λ (core : Core g.row.M-Definition.Denot). IsEventOf (g.M.Monitor.meaning core.definition) c.args.self.now.objects c.args.node.step) (sym c.self.view_is) c.requires) in
-    λ none. live_event m c.self.inside.objects c.in-Event.letter c.in-Event.binding fits.0 none
-
-pub perform-outcome-requires-clause-in_range : goal.perform-outcome-requires-clause-in_range
-perform-outcome-requires-clause-in_range g c =
+pub perform-outcome-requires-clause-can : goal.perform-outcome-requires-clause-can
+perform-outcome-requires-clause-can g c =
     let m = g.M.Monitor.meaning (g.M.Monitor.definition c.self.inside.rules) in
     let is : c.args.node.step ≡ Event c.in-Event.letter c.in-Event.binding = sym c.step.ensures ∙ c.in-Event.is in
     let fits : IsEventOf m (length c.self.inside.objects) (Event c.in-Event.letter c.in-Event.binding) =
     subst (λ (s : Step). IsEventOf m (length c.self.inside.objects) s) is
     (subst (λ (core : Core g.row.M-Definition.Denot). IsEventOf (g.M.Monitor.meaning core.definition) core.objects c.args.node.step) (sym c.self.view_is) c.requires) in
-    objects_below (length c.self.inside.objects) c.in-Event.binding fits.1
+    record {
+      closed = c.self.invariant.0.closed;
+      fits = c.self.invariant.0.fits;
+      eight = fits.0.1;
+      event = λ none. live_event m c.self.inside.objects c.in-Event.letter c.in-Event.binding fits.0 none;
+      within = objects_below (length c.self.inside.objects) c.in-Event.binding fits.1;
+      listed = c.self.invariant.1;
+    }
 
 pub invariant_of-self : goal.invariant_of-self
 invariant_of-self g c =
