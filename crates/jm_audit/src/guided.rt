@@ -5,6 +5,7 @@ ghost use Rattle.jm_audit.specs.Allowed.{IsAllowed, steps_on};
 ghost use Rattle.jm_audit.specs.Places.{before, within, IsWritten, AreAllDone};
 ghost use Rattle.jm_audit.specs.Sheets.{lexicon, FitSheets};
 ghost use Rattle.jm_audit.specs.Verdicts.{IsVerdict};
+ghost use Rattle.jm_script.specs.Catalogs.{most_scripts, most_specs};
 
 use crate::block::{end_line, head_line, write_block};
 use crate::compare::agreeing_lines;
@@ -26,8 +27,8 @@ pub fn audit<M: Monitor>(
     objects: &Names,
     text: &[u8],
 ) -> Result<Verdict, NoMemory>
-    requires sheets { length sheets.now ≤ 16 }
-    requires scripts { length scripts.now ≤ 16 }
+    requires sheets { length sheets.now ≤ most_specs }
+    requires scripts { length scripts.now ≤ most_scripts }
     requires fit { FitSheets (λ s. M.meaning (M.definition s.rules.now)) (lexicon objects.now) scripts.now sheets.now }
     ensures { IfOk result (λ verdict. IsVerdict (IsAllowed (λ s. M.meaning (M.definition s.rules.now))
         (lexicon objects.now) scripts.now sheets.now) text.now verdict) }
@@ -64,7 +65,7 @@ fn write_history<'t, M: Monitor>(
     written: &mut Vec<u8>,
 ) -> Result<Option<&'t [u8]>, NoMemory>
     requires in_range { number < length sheets.now }
-    requires scripts { length scripts.now ≤ 16 }
+    requires scripts { length scripts.now ≤ most_scripts }
     requires fit { FitSheets (λ s. M.meaning (M.definition s.rules.now)) (lexicon objects.now) scripts.now sheets.now }
     ensures { IfOk result (λ left. (text : List ℕ)
         → IsWritten (λ s. M.meaning (M.definition s.rules.now)) (lexicon objects.now) scripts.now sheets.now
@@ -92,7 +93,7 @@ fn write_entries<'t, M: Monitor>(
     written: &mut Vec<u8>,
 ) -> Result<(usize, Option<&'t [u8]>), NoMemory>
     requires in_range { number < length sheets.now }
-    requires scripts { length scripts.now ≤ 16 }
+    requires scripts { length scripts.now ≤ most_scripts }
     requires fit { FitSheets (λ s. M.meaning (M.definition s.rules.now)) (lexicon objects.now) scripts.now sheets.now }
     ensures { IfOk result (λ told. (h : List HistoryEntry) × (told.0 ≡ length h)
         × AreAllDone (steps_on scripts.now number) h

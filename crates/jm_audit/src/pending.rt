@@ -3,6 +3,7 @@ ghost use Rattle.std.specs.Prelude.{◌≡◌, ◌≤◌, ◌<◌, ◌++◌, [],
 ghost use mathlib.Core.List.{IsPrefix};
 ghost use Rattle.jm_audit.specs.Allowed.{steps_on};
 ghost use Rattle.jm_audit.specs.Pending.{pending_at, AreUnderway, IsChoice, mark};
+ghost use Rattle.jm_script.specs.Catalogs.{most_scripts};
 
 use crate::compare::is_at;
 use itoa::Buffer;
@@ -24,7 +25,7 @@ pub(crate) fn pending_steps(
     scripts: &[CompactScript],
     number: u8,
 ) -> Result<Vec<Pending>, NoMemory>
-    requires { length scripts.now ≤ 16 }
+    requires { length scripts.now ≤ most_scripts }
     ensures { IfOk result (λ pending. AreUnderway (steps_on scripts.now number) [] pending.items) }
 {
     let mut pending = Vec::new(alloc);

@@ -8,6 +8,7 @@ ghost use Rattle.jm_audit.specs.Allowed.{steps_on};
 ghost use Rattle.jm_audit.specs.Pending.{AreUnderway};
 ghost use Rattle.jm_audit.specs.Progress.{IsReady, IsWrittenNext};
 ghost use Rattle.jm_audit.specs.Sheets.{lexicon, AreFit};
+ghost use Rattle.jm_script.specs.Catalogs.{most_scripts};
 
 use crate::account::Account;
 use crate::block::write_block;
@@ -36,7 +37,7 @@ impl Progress {
         scripts: &[CompactScript],
         objects: &Names,
     ) -> Result<Progress, NoMemory>
-        requires scripts { length scripts.now ≤ 16 }
+        requires scripts { length scripts.now ≤ most_scripts }
         requires fit { AreFit (M.meaning (M.definition sheet.now.rules.now)) (lexicon objects.now sheet.now)
             (steps_on scripts.now number) }
         ensures ready { IfOk result (IsReady (M.meaning (M.definition sheet.now.rules.now))

@@ -1,6 +1,7 @@
 ghost use Rattle.std.specs.Prelude.{ℕ, ◌≡◌, ◌==◌, ◌<◌, ◌↔◌, ◌&&◌, Some, All, IsTrue, length, slice_get};
 ghost use Rattle.std.specs.Int.{bit_at};
 ghost use Rattle.jm_coenable.specs.Needs.{IsHandled, IsFirst, is_in_group, is_reset, step_of};
+ghost use Rattle.jm_goal.specs.Goals.{most_handlers};
 
 use jm_goal::Goal;
 use jm_model::Letter;
@@ -63,7 +64,7 @@ fn is_reset(table: &Table, goal: &Goal, state: u16) -> bool
 fn resets(table: &Table, goal: &Goal, state: u16, handler: u8) -> bool
     requires state { state < table.now.states }
     requires groups { All (λ group. group < length table.now.groups) goal.now.groups }
-    requires bounded { handler < 16 }
+    requires bounded { handler < most_handlers }
     requires handler { handler < length goal.now.groups }
     ensures { (group : ℕ) → slice_get goal.now.groups handler ≡ Some group →
         result ≡ ((bit_at goal.now.resets handler == 1) && is_in_group table.now state group) }

@@ -1,6 +1,6 @@
 ghost use Rattle.std.specs.Prelude.{◌≡◌, ◌≤◌, ◌⊎◌, List, [], Err, length, IfOk, IfErr, OnOk, IsOkUnless};
 ghost use Rattle.jm_model.specs.declared.fault.SpecFault.{SpecFault};
-ghost use Rattle.jm_table.specs.Explorations.{IfBad};
+ghost use Rattle.jm_table.specs.Explorations.{IfBad, most_states};
 ghost use Rattle.jm_ere.specs.Expressions.{Expression};
 ghost use Rattle.jm_ere.specs.Categories.{category_names};
 ghost use Rattle.jm_ere.specs.Groups.{IsCompiled, HasGroups};
@@ -57,7 +57,7 @@ impl Ere {
 /// Adds the groups of `match` and `fail` to a table whose states stand for these forms.
 fn add_groups(alloc: Global, forms: &[Ere], table: &mut Table) -> Result<(), SpecError>
     requires states { table.old.states ≡ length forms.now }
-    requires bounded { length forms.now ≤ 1024 }
+    requires bounded { length forms.now ≤ most_states }
     requires groups { table.old.groups ≡ [] }
     ensures groups { OnOk result (HasGroups forms.now table.old table.new) }
     ensures fault { IfErr result (λ e. e ≡ SpecError.NoMemory) }

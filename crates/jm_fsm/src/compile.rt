@@ -1,6 +1,8 @@
 ghost use Rattle.std.specs.Prelude.{◌≡◌, ◌<◌, ◌≤◌, [], IfOk, IfErr, OnOk, length};
 ghost use Rattle.jm_fsm.specs.Tables.{HasGroups, HasStates, IsCompiled};
 ghost use Rattle.jm_fsm.specs.Categories.{category_count};
+ghost use Rattle.jm_table.specs.Explorations.{most_states};
+ghost use Rattle.jm_table.specs.Tables.{most_groups};
 
 use crate::machine::{Destination, Fsm};
 use jm_events::EventTable;
@@ -33,9 +35,9 @@ impl Fsm {
         table: &mut Table,
     ) -> Result<(), SpecError>
         requires categories { categories ≡ category_count self.now }
-        requires room { categories < 65535 }
+        requires room { categories < most_groups }
         requires states { table.old.states ≡ length nodes.now }
-        requires bounded { length nodes.now ≤ 1024 }
+        requires bounded { length nodes.now ≤ most_states }
         requires groups { table.old.groups ≡ [] }
         ensures groups { OnOk result (HasGroups self.now nodes.now (category_count self.now) table.old table.new) }
         ensures fault { IfErr result (λ e. e ≡ SpecError.NoMemory) }

@@ -2,9 +2,13 @@
 use Rattle.std.specs.Prelude.{ℕ, zero, suc, ◌+◌, ◌%◌, ◌≤◌, ◌==◌, [], ◌++◌, codes, decimal, if◌then◌else◌}
 use Rattle.jm_model.specs.Words.{Text}
 
+-- how many rounds a workload has at most
+abbrev pub most_rounds : ℕ
+most_rounds = 8000
+
 -- a workload of this many rounds can be made
 abbrev pub IsInRange : ℕ → Type 0
-IsInRange n = (1 ≤ n) × (n ≤ 8000)
+IsInRange n = (1 ≤ n) × (n ≤ most_rounds)
 
 -- the name of an object of a script's round, after the letter of its kind
 unfoldable pub object : Text → ℕ → ℕ → Text

@@ -1,7 +1,7 @@
 //! The files of a workload.
 ghost use Rattle.std.specs.Prelude.{◌≡◌, ◌≤◌, [], ◌∷◌, map, IfOk, IsOkUnless};
 ghost use Rattle.jm_gen.specs.Specifications.{unsafe_iter, has_next};
-ghost use Rattle.jm_gen.specs.Scripts.{IsInRange, script_text};
+ghost use Rattle.jm_gen.specs.Scripts.{IsInRange, script_text, most_rounds};
 
 use crate::files::{GenError, Workload};
 use crate::script::script;
@@ -31,7 +31,7 @@ pub fn workload(alloc: Global, n: u32) -> Result<Workload, GenError>
 
 /// The two specifications, and the four scripts, each of the given number of rounds.
 fn files(alloc: Global, n: u32) -> Result<Workload, AllocError>
-    requires { n ≤ 8000 }
+    requires { n ≤ most_rounds }
     ensures specs { IfOk result (λ files. map (λ text. text.items) files.specs.items ≡ unsafe_iter ∷ has_next ∷ []) }
     ensures scripts { IfOk result (λ files. map (λ text. text.items) files.scripts.items
         ≡ script_text 0 n ∷ script_text 1 n ∷ script_text 2 n ∷ script_text 3 n ∷ []) }

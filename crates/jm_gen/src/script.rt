@@ -1,6 +1,6 @@
 //! A script of a workload.
 ghost use Rattle.std.specs.Prelude.{◌≡◌, ◌≤◌, ◌<◌, ◌++◌, decimal, string_bytes, IfOk, OnOk};
-ghost use Rattle.jm_gen.specs.Scripts.{object, step_line, create_line, round_over, passes_after, round_text, script_text};
+ghost use Rattle.jm_gen.specs.Scripts.{object, step_line, create_line, round_over, passes_after, round_text, script_text, most_rounds};
 
 use itoa::Buffer;
 use std::alloc::{AllocError, Global};
@@ -10,7 +10,7 @@ const ROUNDS_TO_A_PASS: u32 = 16;
 
 /// The script of a number, with `n` rounds.
 pub(crate) fn script(alloc: Global, number: u32, n: u32) -> Result<Vec<u8>, AllocError>
-    requires { n ≤ 8000 }
+    requires { n ≤ most_rounds }
     ensures { IfOk result (λ text. text.items ≡ script_text number n) }
 {
     let mut text = String::new(alloc);
@@ -23,7 +23,7 @@ pub(crate) fn script(alloc: Global, number: u32, n: u32) -> Result<Vec<u8>, Allo
 /// Adds a round, and the passes that follow it.
 #[tactic(auto, unfolding(crate::specs::Scripts::round_text))]
 fn add_round(alloc: Global, text: &mut String, number: u32, round: u32) -> Result<(), AllocError>
-    requires { round < 8000 }
+    requires { round < most_rounds }
     ensures { OnOk result (string_bytes text.new ≡ string_bytes text.old ++ round_text number round) }
 {
     let collection = object(alloc, "c", number, round)?;
@@ -93,7 +93,7 @@ fn add_step(text: &mut String, words: &str, object: &str) -> Result<(), AllocErr
 /// Adds a pass on each specification, where one follows the round.
 #[tactic(auto, unfolding(crate::specs::Scripts::passes_after))]
 fn add_passes(text: &mut String, round: u32) -> Result<(), AllocError>
-    requires { round < 8000 }
+    requires { round < most_rounds }
     ensures { OnOk result (string_bytes text.new ≡ string_bytes text.old ++ passes_after round) }
 {
     if (round + 1) % ROUNDS_TO_A_PASS == 0 {

@@ -1,4 +1,5 @@
 ghost use Rattle.std.specs.Prelude.{◌≡◌, ◌<◌, ◌≤◌, ◌^◌, ◌⊎◌, Some, length, slice_get, vec_len};
+ghost use Rattle.jm_goal.specs.Goals.{most_handlers};
 
 use std::marker::Model;
 
@@ -34,7 +35,7 @@ impl Goal {
     /// The goal of these handlers: handler k has group `groups[k]`, and resets its property where bit k of `resets` is
     /// set. None does where a reported instance has to bind something.
     pub fn new(groups: Vec<u16>, creation: u32, must_bind: u8, resets: u16) -> Goal
-        requires bounded { vec_len groups ≤ 16 }
+        requires bounded { vec_len groups ≤ most_handlers }
         requires in_range { resets < 2 ^ vec_len groups }
         requires apart { (resets ≡ 0) ⊎ (must_bind ≡ 0) }
         ensures { result ≡ record {
@@ -55,7 +56,7 @@ impl Goal {
     /// How many handlers there are, at most 16.
     pub fn handlers(&self) -> u8
         ensures value { result ≡ length self.now.groups }
-        ensures bounded { result ≤ 16 }
+        ensures bounded { result ≤ most_handlers }
     {
         self.groups.len() as u8
     }

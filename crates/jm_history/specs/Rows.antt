@@ -91,6 +91,10 @@ FitsStep count ShortPass = Unit {0}
 abbrev pub FitsIn : ℕ → ℕ → Short → Type 0
 FitsIn objects outcomes s = FitsStep objects s.step × (s.outcome < outcomes)
 
+-- how many places of objects, and of outcomes, a short form tells apart
+abbrev pub most_places : ℕ
+most_places = 65536
+
 -- the entries have their objects and outcomes, and there is room for so many more
 pub record IsRow (shorts : Vec Short) (objects : Vec ℕ) (outcomes : Vec Outcome) (room : ℕ) : Type 0 where
   pub fit : All (FitsIn (length objects.items) (length outcomes.items)) shorts.items
@@ -98,5 +102,5 @@ pub record IsRow (shorts : Vec Short) (objects : Vec ℕ) (outcomes : Vec Outcom
   pub entries : vec_len shorts + room ≤ vec_capacity shorts
   pub objects_room : vec_len objects + 8 * room ≤ vec_capacity objects
   pub outcomes_room : vec_len outcomes + room ≤ vec_capacity outcomes
-  pub object_places : 0 < room → vec_len objects + 8 * room ≤ 65536
-  pub outcome_places : 0 < room → vec_len outcomes + room ≤ 65536
+  pub object_places : 0 < room → vec_len objects + 8 * room ≤ most_places
+  pub outcome_places : 0 < room → vec_len outcomes + room ≤ most_places

@@ -2,7 +2,7 @@
 ghost use Rattle.std.specs.Prelude.{ℕ, ◌≡◌, ◌+◌, ◌*◌, ◌<◌, ◌≤◌, [], ◌∷◌, ◌++◌, length, drop, slice_get, slice_index_or, Some, IfOk, IfSome, MatchOption, count_ones, vec_len, vec_capacity};
 ghost use Rattle.jm_model.specs.Bindings.{objects_of, mask_of};
 ghost use Rattle.jm_history.specs.Nodes.{answered};
-ghost use Rattle.jm_history.specs.Rows.{placed, short_of, objects_in, IsOfEight, IsShared, outcome_at, Grown, FitsStep, step_of, event_entry};
+ghost use Rattle.jm_history.specs.Rows.{placed, short_of, objects_in, IsOfEight, IsShared, outcome_at, Grown, FitsStep, step_of, event_entry, most_places};
 
 use crate::lent::{Lent, LentEvent};
 use jm_model::{Binding, Firings, Letter, NoMemory, Outcome, Step};
@@ -184,8 +184,8 @@ fn room(shorts: &Vec<Short>, objects: &Vec<u32>, outcomes: &Vec<Outcome>) -> usi
     ensures entries { vec_len shorts.now + result ≤ vec_capacity shorts.now }
     ensures objects { vec_len objects.now + 8 * result ≤ vec_capacity objects.now }
     ensures outcomes { vec_len outcomes.now + result ≤ vec_capacity outcomes.now }
-    ensures object_places { 0 < result → vec_len objects.now + 8 * result ≤ 65536 }
-    ensures outcome_places { 0 < result → vec_len outcomes.now + result ≤ 65536 }
+    ensures object_places { 0 < result → vec_len objects.now + 8 * result ≤ most_places }
+    ensures outcome_places { 0 < result → vec_len outcomes.now + result ≤ most_places }
 {
     let entries = shorts.capacity().saturating_sub(shorts.len());
     entries
@@ -211,7 +211,7 @@ fn make_room<T>(items: &mut Vec<T>, least: usize, more: usize)
 #[inline(always)]
 fn shortened(objects: &mut Vec<u32>, step: &Step) -> ShortStep
     requires room { vec_len objects.old + 8 ≤ vec_capacity objects.old }
-    requires places { vec_len objects.old < 65536 }
+    requires places { vec_len objects.old < most_places }
     ensures short { result ≡ short_of (length objects.old.items) step.now }
     ensures objects { objects.new.items ≡ objects.old.items ++ objects_in step.now }
     ensures eight { IsOfEight step.now }
@@ -259,7 +259,7 @@ fn add_objects(objects: &mut Vec<u32>, mask: u8, binding: &Binding)
 #[inline(always)]
 fn kept(outcomes: &mut Vec<Outcome>, outcome: Outcome) -> u16
     requires room { vec_len outcomes.old < vec_capacity outcomes.old }
-    requires places { vec_len outcomes.old < 65536 }
+    requires places { vec_len outcomes.old < most_places }
     requires shared { IsShared outcomes.old.items }
     ensures within { result < length outcomes.new.items }
     ensures outcome { outcome_at outcomes.new.items result ≡ outcome }
@@ -283,7 +283,7 @@ fn kept(outcomes: &mut Vec<Outcome>, outcome: Outcome) -> u16
 /// Puts an outcome after the others. It answers its place.
 fn added(outcomes: &mut Vec<Outcome>, outcome: Outcome) -> u16
     requires room { vec_len outcomes.old < vec_capacity outcomes.old }
-    requires places { vec_len outcomes.old < 65536 }
+    requires places { vec_len outcomes.old < most_places }
     ensures place { result ≡ length outcomes.old.items }
     ensures outcomes { outcomes.new.items ≡ outcomes.old.items ++ outcome ∷ [] }
     ensures capacity { vec_capacity outcomes.new ≡ vec_capacity outcomes.old }

@@ -6,6 +6,8 @@ ghost use Rattle.jm_inputs.specs.Sources.{FileContents};
 ghost use Rattle.jm_inputs.specs.Commands.{named, given_files, workload_specs, workload_scripts};
 ghost use Rattle.jm_inputs.specs.Causes.{CountsFailedReads, StopsInputs, StopsCommand};
 ghost use Rattle.jm_inputs.specs.Reading.{AreInputsOf};
+ghost use Rattle.jm_script.specs.Catalogs.{most_specs, most_scripts};
+ghost use Rattle.jm_script.specs.Meanings.{most_steps};
 
 use crate::library::{Library, Purpose, given_specifications, read_specifications};
 use crate::scripts::{Scripts, Setting, given_scripts, read_scripts};
@@ -30,10 +32,10 @@ pub fn read_inputs<F: Folder>(
     setting: Setting,
     files: &mut F,
 ) -> Result<Inputs, Status>
-    requires few_specs { length specs.now ≤ 16 }
-    requires few_scripts { length scripts.now ≤ 16 }
+    requires few_specs { length specs.now ≤ most_specs }
+    requires few_scripts { length scripts.now ≤ most_scripts }
     requires files { setting.files ≤ 1 }
-    requires steps { setting.steps ≤ 200000 }
+    requires steps { setting.steps ≤ most_steps }
     ensures read { IfOk result (AreInputsOf (F.holds files.old) setting.ordered setting.steps
         (named (map string_bytes specs.now)) (named (map string_bytes scripts.now))) }
     ensures err { IfErr result (StopsInputs (F.holds files.old) setting.ordered setting.files setting.steps
@@ -47,8 +49,8 @@ pub fn read_inputs<F: Folder>(
 
 /// Reads files that are given, specifications and scripts, as if they were loaded.
 fn given_inputs(alloc: Global, specs: &[Vec<u8>], scripts: &[Vec<u8>]) -> Result<Inputs, Status>
-    requires few_specs { length specs.now ≤ 16 }
-    requires few_scripts { length scripts.now ≤ 16 }
+    requires few_specs { length specs.now ≤ most_specs }
+    requires few_scripts { length scripts.now ≤ most_scripts }
     ensures read { (contents : FileContents)
         → IfOk result (AreInputsOf contents true 0 (given_files (map (λ file. file.items) specs.now))
         (given_files (map (λ file. file.items) scripts.now))) }

@@ -3,7 +3,7 @@ ghost use Rattle.std.specs.Prelude.{◌≡◌, ◌<◌, ◌≤◌, ◌∷◌, �
 ghost use Rattle.jm_events.specs.Names.{number_of};
 ghost use Rattle.jm_reading.specs.Faults.{Checks};
 ghost use Rattle.jm_model.specs.declared.fault.SpecFault.{SpecFault};
-ghost use Rattle.jm_script.specs.Catalogs.{spec_names};
+ghost use Rattle.jm_script.specs.Catalogs.{spec_names, most_specs};
 ghost use Rattle.jm_inputs.specs.Commands.{named, given_files};
 ghost use Rattle.jm_inputs.specs.Sources.{FileContents, Named};
 ghost use Rattle.jm_inputs.specs.Specifications.{most_bytes};
@@ -51,7 +51,7 @@ impl Library {
 
     /// Adds a specification. The fault is `DuplicateSpec` where one has its name.
     fn add(&mut self, name: &str, table: EventTable, loaded: Loaded) -> Result<(), SpecError>
-        requires bounded { length self.old.specs.items < 16 }
+        requires bounded { length self.old.specs.items < most_specs }
         requires catalogued { IsCatalogued self.old }
         requires whole { IsWhole (listing (named_entry name.now table) loaded) }
         ensures listed { OnOk result (listed_in self.new
@@ -77,7 +77,7 @@ pub fn read_specifications<F: Folder>(
     purpose: Purpose,
     files: &mut F,
 ) -> Result<Library, Status>
-    requires bounded { length names.now ≤ 16 }
+    requires bounded { length names.now ≤ most_specs }
     requires before { before ≤ 1 }
     ensures read { IfOk result (IsLibraryOf (F.holds files.old) (asks_families purpose)
         (named (map string_bytes names.now))) }
@@ -96,7 +96,7 @@ pub fn read_specifications<F: Folder>(
 
 /// Reads the specifications that these bytes say, in order.
 pub(crate) fn given_specifications(alloc: Global, files: &[Vec<u8>]) -> Result<Library, Status>
-    requires { length files.now ≤ 16 }
+    requires { length files.now ≤ most_specs }
     ensures read { (contents : FileContents)
         → IfOk result (IsLibraryOf contents false (given_files (map (λ file. file.items) files.now))) }
     ensures err { (contents : FileContents)
@@ -111,7 +111,7 @@ pub(crate) fn given_specifications(alloc: Global, files: &[Vec<u8>]) -> Result<L
 
 /// Reads the specification that these bytes say, after those of the library, however many they are.
 fn read_given(alloc: Global, bytes: &[u8], library: &mut Library) -> Result<(), Status>
-    requires bounded { length library.old.specs.items < 16 }
+    requires bounded { length library.old.specs.items < most_specs }
     requires catalogued { IsCatalogued library.old }
     ensures read { OnOk result (HasNext false bytes.now library.old library.new) }
     ensures err { IfErr result (IsNoSpecIn false (specs_in library.old) (length library.old.specs.items) bytes.now) }
@@ -134,7 +134,7 @@ fn read_next<F: Folder>(
     library: &mut Library,
 ) -> Result<(), Status>
     requires before { before ≤ 1 }
-    requires bounded { length library.old.specs.items < 16 }
+    requires bounded { length library.old.specs.items < most_specs }
     requires catalogued { IsCatalogued library.old }
     ensures read { OnOk result (HasNextFrom (F.holds files.old) (Named name.now) (asks_families purpose) library.old
         library.new) }
@@ -169,7 +169,7 @@ fn read_bytes(
     library: &mut Library,
 ) -> Result<(), Status>
     requires small { length bytes.now ≤ most_bytes }
-    requires bounded { length library.old.specs.items < 16 }
+    requires bounded { length library.old.specs.items < most_specs }
     requires catalogued { IsCatalogued library.old }
     ensures read { OnOk result (HasNext (asks_families purpose) bytes.now library.old library.new) }
     ensures err { IfErr result (IsNoSpecIn (asks_families purpose) (specs_in library.old) number bytes.now) }
@@ -194,7 +194,7 @@ fn admit(
     library: &mut Library,
 ) -> Result<(), SpecError>
     requires small { length bytes.now ≤ most_bytes }
-    requires bounded { length library.old.specs.items < 16 }
+    requires bounded { length library.old.specs.items < most_specs }
     requires catalogued { IsCatalogued library.old }
     ensures read { OnOk result (HasNext (asks_families purpose) bytes.now library.old library.new) }
     ensures fault { (fault : SpecFault) → result ≡ Err (SpecError.Bad fault)

@@ -10,6 +10,9 @@ ghost use Rattle.jm_sync.specs.Checks.{AreSound, sync_of};
 ghost use Rattle.jm_inputs.specs.Scripts.{meaning_over, IsScriptFileFault};
 ghost use Rattle.jm_inputs.specs.Reading.{specs_in, IsCatalogued, AreCounted, HasSteps, AreLeft, HasScript, HasScriptFrom, AreScriptsOf};
 ghost use Rattle.jm_inputs.specs.Causes.{CountsFailedReads, IsNoOrder, IsNoScript, IsNoScriptFileIn, StopsScripts};
+ghost use Rattle.jm_script.specs.Catalogs.{most_specs, most_scripts};
+ghost use Rattle.jm_script.specs.Meanings.{most_steps};
+ghost use Rattle.jm_script.specs.Objects.{most_objects};
 
 use crate::files::{let_go, load};
 use crate::library::Library;
@@ -50,7 +53,7 @@ pub struct Scripts {
 impl Scripts {
     /// No script. The given number of steps counts as read.
     pub(crate) fn new(alloc: Global, count: u32) -> Scripts
-        requires { count ≤ 200000 }
+        requires { count ≤ most_steps }
         ensures list { result.list.items ≡ [] }
         ensures objects { result.objects ≡ [] }
         ensures count { result.count ≡ count }
@@ -77,10 +80,10 @@ pub(crate) fn read_scripts<F: Folder>(
     setting: Setting,
     files: &mut F,
 ) -> Result<Scripts, Status>
-    requires bounded { length names.now ≤ 16 }
+    requires bounded { length names.now ≤ most_scripts }
     requires files { setting.files ≤ 1 }
-    requires steps { setting.steps ≤ 200000 }
-    requires few_specs { length library.now.specs.items ≤ 16 }
+    requires steps { setting.steps ≤ most_steps }
+    requires few_specs { length library.now.specs.items ≤ most_specs }
     requires catalogued { IsCatalogued library.now }
     ensures read { IfOk result (AreScriptsOf (F.holds files.old) setting.ordered (specs_in library.now) setting.steps
         (named (map string_bytes names.now))) }
@@ -103,7 +106,7 @@ pub(crate) fn given_scripts(
     files: &[Vec<u8>],
     library: &Library,
 ) -> Result<Scripts, Status>
-    requires bounded { length files.now ≤ 16 }
+    requires bounded { length files.now ≤ most_scripts }
     requires catalogued { IsCatalogued library.now }
     ensures read { (contents : FileContents)
         → IfOk result (AreScriptsOf contents true (specs_in library.now) 0
@@ -122,7 +125,7 @@ pub(crate) fn given_scripts(
 
 /// Whether scripts can be done in the order that they ask for.
 fn check_order(alloc: Global, cuts: &[Cut]) -> Result<(), Status>
-    requires { length cuts.now ≤ 16 }
+    requires { length cuts.now ≤ most_scripts }
     ensures sound { OnOk result (AreSound (sync_of cuts.now)) }
     ensures err { IfErr result (IsNoOrder (sync_of cuts.now)) }
 {
@@ -142,7 +145,7 @@ fn read_given(
     library: &Library,
     scripts: &mut Scripts,
 ) -> Result<(), Status>
-    requires bounded { length scripts.old.list.items < 16 }
+    requires bounded { length scripts.old.list.items < most_scripts }
     requires catalogued { IsCatalogued library.now }
     requires counted { AreCounted (specs_in library.now) scripts.old }
     ensures read { OnOk result (HasScript true (specs_in library.now) bytes.now scripts.old scripts.new) }
@@ -166,7 +169,7 @@ fn read_next<F: Folder>(
     scripts: &mut Scripts,
 ) -> Result<(), Status>
     requires few_files { setting.files + length library.now.specs.items ≤ 17 }
-    requires bounded { length scripts.old.list.items < 16 }
+    requires bounded { length scripts.old.list.items < most_scripts }
     requires catalogued { IsCatalogued library.now }
     requires counted { AreCounted (specs_in library.now) scripts.old }
     ensures read { OnOk result (HasScriptFrom (F.holds files.old) (Named name.now)
@@ -213,7 +216,7 @@ fn read_bytes(
     scripts: &mut Scripts,
 ) -> Result<(), Status>
     requires small { length bytes.now ≤ most_bytes }
-    requires bounded { length scripts.old.list.items < 16 }
+    requires bounded { length scripts.old.list.items < most_scripts }
     requires catalogued { IsCatalogued library.now }
     requires counted { AreCounted (specs_in library.now) scripts.old }
     ensures read { OnOk result (HasScript ordered (specs_in library.now) bytes.now scripts.old scripts.new) }
@@ -242,7 +245,7 @@ fn add(
     scripts: &mut Scripts,
 ) -> Result<(), ScriptError>
     requires small { length bytes.now ≤ most_bytes }
-    requires bounded { length scripts.old.list.items < 16 }
+    requires bounded { length scripts.old.list.items < most_scripts }
     requires catalogued { IsCatalogued library.now }
     requires counted { AreCounted (specs_in library.now) scripts.old }
     ensures read { OnOk result (HasScript ordered (specs_in library.now) bytes.now scripts.old scripts.new) }
@@ -279,7 +282,7 @@ fn add_cut(
     scripts: &mut Scripts,
 ) -> Result<(), ScriptError>
     requires small { length bytes.now ≤ most_bytes }
-    requires bounded { length scripts.old.list.items < 16 }
+    requires bounded { length scripts.old.list.items < most_scripts }
     requires catalogued { IsCatalogued library.now }
     requires counted { AreCounted (specs_in library.now) scripts.old }
     ensures read { OnOk result (HasScript true (specs_in library.now) bytes.now scripts.old scripts.new) }
@@ -312,8 +315,8 @@ fn add_steps(
     scripts: &mut Scripts,
 ) -> Result<(), ScriptError>
     requires small { length bytes.now ≤ most_bytes }
-    requires few_steps { scripts.old.count ≤ 200000 }
-    requires few_names { length scripts.old.objects ≤ 65536 }
+    requires few_steps { scripts.old.count ≤ most_steps }
+    requires few_names { length scripts.old.objects ≤ most_objects }
     requires catalogued { IsCatalogued library.now }
     ensures read { OnOk result (HasSteps (specs_in library.now) bytes.now lines.items scripts.old scripts.new) }
     ensures fault { (fault : ScriptFault) → result ≡ Err (ScriptError.Bad fault)

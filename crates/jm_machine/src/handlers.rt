@@ -5,6 +5,8 @@ ghost use Rattle.jm_reading.specs.Faults.{Checks};
 ghost use Rattle.jm_spec.specs.Trees.{facts_of};
 ghost use Rattle.jm_events.specs.Names.{number_of};
 ghost use Rattle.jm_machine.specs.Handlers.{handler_names, AreCategories, handlers_in, count_fault, duplicate_fault, category_fault, reset_in, reset_fault, binding_fault, duplicates_fault, categories_fault, bindings_fault, handlers_fault, has_language, handles_fail, refuses_suffix, suffix_fault, has_reset};
+ghost use Rattle.jm_table.specs.Tables.{most_groups};
+ghost use Rattle.jm_goal.specs.Goals.{most_handlers};
 
 use crate::formula::Formula;
 use jm_events::Names;
@@ -42,7 +44,7 @@ pub(crate) fn check_handlers(
 /// At most 16 handlers of all properties.
 fn check_count(properties: &[PropertyTree]) -> Result<(), SpecError>
     ensures checked { Checks result (count_fault (map facts_of properties.now)) }
-    ensures bounded { IfOk result (λ _. handlers_in (map facts_of properties.now) ≤ 16) }
+    ensures bounded { IfOk result (λ _. handlers_in (map facts_of properties.now) ≤ most_handlers) }
 {
     let mut count = 0;
     for property in properties {
@@ -58,7 +60,7 @@ fn check_count(properties: &[PropertyTree]) -> Result<(), SpecError>
 
 /// The first handler of a property for a category that an earlier handler of the same property is for.
 fn check_distinct(alloc: Global, bytes: &[u8], properties: &[PropertyTree]) -> Result<(), SpecError>
-    requires { handlers_in (map facts_of properties.now) ≤ 16 }
+    requires { handlers_in (map facts_of properties.now) ≤ most_handlers }
     ensures { Checks result (duplicates_fault bytes.now (map facts_of properties.now)) }
 {
     for property in properties {
@@ -158,7 +160,7 @@ pub(crate) fn distinct(
     bytes: &[u8],
     handlers: &[HandlerText],
 ) -> Result<Names, SpecError>
-    requires { length handlers.now ≤ 16 }
+    requires { length handlers.now ≤ most_handlers }
     ensures names { IfOk result (λ names. names ≡ handler_names bytes.now handlers.now) }
     ensures checked { Checks result (duplicate_fault bytes.now [] handlers.now) }
 {
@@ -236,7 +238,7 @@ fn check_block_resets(bytes: &[u8], block: &[Token]) -> Result<(), SpecError>
 /// The handlers whose block has the word `__RESET`: bit k stands for handler k.
 pub(crate) fn resets_of(bytes: &[u8], tokens: &[Token], handlers: &[HandlerText]) -> u16
     requires tokens { LieWithin bytes.now tokens.now }
-    requires bounded { length handlers.now ≤ 16 }
+    requires bounded { length handlers.now ≤ most_handlers }
     ensures bits { (k : ℕ) → IsBitSet result k ↔ IsSomeAnd (slice_get handlers.now k)
         (λ h. has_reset bytes.now (slice_range tokens.now h.first h.last) ≡ true) }
     ensures below { result < 2 ^ length handlers.now }
@@ -270,7 +272,7 @@ pub(crate) fn groups_of(
     categories: &Names,
     handlers: &Names,
 ) -> Result<Vec<u16>, SpecError>
-    requires bounded { length categories.now ≤ 65535 }
+    requires bounded { length categories.now ≤ most_groups }
     requires known { AreCategories categories.now handlers.now }
     ensures groups { IfOk result (λ groups. map Some groups.items ≡ map (number_of categories.now) handlers.now) }
     ensures err { IfErr result (λ e. e ≡ SpecError.NoMemory) }

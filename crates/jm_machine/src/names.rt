@@ -3,6 +3,8 @@ ghost use Rattle.std.specs.Prelude.{ℕ, ◌+◌, ◌≡◌, ◌<◌, ◌≤◌,
 ghost use Rattle.jm_machine.specs.HandlerNames.{numbered, numbered_from, AreDistinct, AreEachDistinct};
 ghost use Rattle.jm_machine.specs.Meanings.{handler_count};
 ghost use Rattle.jm_machine.specs.RuleSets.{property_of};
+ghost use Rattle.jm_goal.specs.Goals.{most_handlers};
+ghost use Rattle.jm_spec.specs.Faults.{most_properties};
 
 use crate::property::Property;
 use itoa::Buffer;
@@ -16,8 +18,8 @@ pub(crate) fn numbered_names(
     first: &Property,
     others: &[Property],
 ) -> Result<Names, NoMemory>
-    requires properties { length others.now < 16 }
-    requires handlers { handler_count (map property_of (first.now ∷ others.now)) ≤ 16 }
+    requires properties { length others.now < most_properties }
+    requires handlers { handler_count (map property_of (first.now ∷ others.now)) ≤ most_handlers }
     requires distinct { AreEachDistinct (map (λ part. part.definition.handlers) (first.now ∷ others.now)) }
     ensures { IfOk result (λ names. names
         ≡ numbered_from 0 (map (λ part. part.definition.handlers) (first.now ∷ others.now))) }
@@ -42,8 +44,8 @@ fn add_numbered(
     number: u8,
     categories: &Names,
 ) -> Result<(), NoMemory>
-    requires number { number < 16 }
-    requires bounded { length names.old + length categories.now ≤ 16 }
+    requires number { number < most_handlers }
+    requires bounded { length names.old + length categories.now ≤ most_handlers }
     requires distinct { AreDistinct (names.old ++ map (numbered number) categories.now) }
     ensures { OnOk result (names.new ≡ names.old ++ map (numbered number) categories.now) }
 {
@@ -56,7 +58,7 @@ fn add_numbered(
 
 /// A category of the property of this number, from 0, as it is named.
 fn numbered(alloc: Global, number: u8, category: &str) -> Result<String, NoMemory>
-    requires { number < 16 }
+    requires { number < most_handlers }
     ensures { IfOk result (λ name. string_bytes name ≡ numbered number category.now) }
 {
     let mut buffer = Buffer::new();

@@ -15,6 +15,8 @@ ghost use Rattle.jm_machine.specs.Compiling.{IsCompiledFrom, IsNotCompiled};
 ghost use Rattle.jm_machine.specs.declared.engine.Engine.TheVariants as engine;
 ghost use Rattle.jm_machine.specs.declared.place.Place.TheVariants as place;
 ghost use Rattle.jm_machine.specs.declared.configuration.Configuration.{Configuration};
+ghost use Rattle.jm_goal.specs.Goals.{most_handlers};
+ghost use Rattle.jm_spec.specs.Faults.{most_properties};
 
 use crate::compile::{compile_formulas, read_formulas};
 use crate::configuration::Configuration;
@@ -89,7 +91,7 @@ impl Rules {
         requires bounded { IsFewProperties tree.now }
         ensures ok { IfOk result (λ r. IsCompiledFrom bytes.now tokens.now tree.now r.definition) }
         ensures fit { IfOk result (λ r. All (λ mask. mask < 2 ^ length tree.now.table.parameters) r.definition.masks) }
-        ensures bounded { IfOk result (λ r. handler_count r.definition.properties ≤ 16) }
+        ensures bounded { IfOk result (λ r. handler_count r.definition.properties ≤ most_handlers) }
         ensures count { IfOk result (λ r. length r.definition.properties ≡ length tree.now.properties.items) }
         ensures err { IfErr result (IsNotCompiled bytes.now tokens.now tree.now) }
     {
@@ -114,8 +116,8 @@ impl Rules {
     fn new(alloc: Global, first: Property, others: Vec<Property>) -> Result<Rules, NoMemory>
         requires alike { (k : ℕ) (other : CompiledProperty) → slice_get others.items k ≡ Some other
             → IsAlike first other }
-        requires properties { length others.items < 16 }
-        requires handlers { handler_count (map property_of (first ∷ others.items)) ≤ 16 }
+        requires properties { length others.items < most_properties }
+        requires handlers { handler_count (map property_of (first ∷ others.items)) ≤ most_handlers }
         requires distinct { AreEachDistinct (map (λ part. part.definition.handlers) (first ∷ others.items)) }
         ensures { IfOk result (λ r. r ≡ record {
           definition = rules_with first others.items;
@@ -508,7 +510,7 @@ fn place_at<'a>(places: &'a [Place], otherwise: &'a Place, number: u8) -> &'a Pl
 
 /// The bits of the given number of handlers, moved past those of others.
 fn moved(hits: u16, before: u8, count: u8) -> u16
-    requires { before + count ≤ 16 }
+    requires { before + count ≤ most_handlers }
     ensures { (k : ℕ) → IsBitSet result k ↔ ((i : ℕ) × (i < count) × (k ≡ before + i) × IsBitSet hits i) }
 {
     let mut all = 0;
@@ -522,7 +524,7 @@ fn moved(hits: u16, before: u8, count: u8) -> u16
 
 /// Whether the bit of this number is set.
 fn is_bit_set(bits: u16, number: u8) -> bool
-    requires { number < 16 }
+    requires { number < most_handlers }
     ensures { IsTrue result ↔ IsBitSet bits number }
 {
     bits & (1 << number) != 0

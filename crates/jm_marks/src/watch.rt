@@ -150,8 +150,8 @@ impl Spots {
 
     /// Whether all marks of a group from a place on have spots, of objects that were alive at the last refresh.
     pub(crate) fn are_quiet(&self, place: usize) -> bool
-        requires { place + 16 ≤ length self.now.spots }
-        ensures { IsTrue result → (k : ℕ) → place ≤ k → k < place + 16
+        requires { place + GROUP ≤ length self.now.spots }
+        ensures { IsTrue result → (k : ℕ) → place ≤ k → k < place + GROUP
             → IsQuiet self.now.flags (slice_index self.now.spots k) }
     {
         if self.flags.is_empty() {

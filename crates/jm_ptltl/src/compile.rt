@@ -2,6 +2,8 @@ ghost use Rattle.std.specs.Prelude.{◌≡◌, ◌<◌, ◌≤◌, ◌↔◌, �
 ghost use Rattle.jm_ptltl.specs.Vectors.{Says, HasGroup};
 ghost use Rattle.jm_ptltl.specs.Formulas.{postfix};
 ghost use Rattle.jm_ptltl.specs.Tables.{HasStates, IsCompiled, IsCrowded};
+ghost use Rattle.jm_table.specs.Explorations.{most_states};
+ghost use Rattle.jm_table.specs.Tables.{most_groups};
 
 use crate::past::Past;
 use crate::vector::has_bit;
@@ -42,11 +44,11 @@ fn add_group(
     table: &mut Table,
 ) -> Result<(), SpecError>
     requires place { place < 64 }
-    requires room { length table.old.groups < 65535 }
+    requires room { length table.old.groups < most_groups }
     requires states { table.old.states ≡ length nodes.now }
-    requires bounded { length nodes.now ≤ 1024 }
+    requires bounded { length nodes.now ≤ most_states }
     ensures group { OnOk result (HasGroup place truth nodes.now table.old table.new) }
-    ensures bounded { table.old.states ≤ 1024 }
+    ensures bounded { table.old.states ≤ most_states }
     ensures fault { IfErr result (λ e. e ≡ SpecError.NoMemory) }
 {
     let members = places(alloc, nodes, move |node| says(*node, place, truth))?;

@@ -2,6 +2,7 @@ ghost use Rattle.std.specs.Prelude.{◌≡◌, ◌≤◌, ℕ, [], All, length, 
 ghost use Rattle.jm_sync.specs.Checks.{sync_of};
 ghost use Rattle.jm_runner.specs.Orders.{IsOrdered};
 ghost use Rattle.jm_runner.specs.Runs.{AreCuts, CanRun, IsNaming, IsRunOf};
+ghost use Rattle.jm_script.specs.Catalogs.{most_specs, most_scripts};
 
 use crate::closing::close_all;
 use crate::gate::Gate;
@@ -41,8 +42,8 @@ pub fn run_scripts<M: Monitor + Send, G: Gate, R: Threads + Wait + Sync>(
 ) -> Result<Vec<Prop<M>>, NoMemory>
 where
     M::State: Send,
-    requires watches { (1 ≤ vec_len watches) × (vec_len watches ≤ 16) }
-    requires scripts { (1 ≤ length scripts.now) × (length scripts.now ≤ 16) }
+    requires watches { (1 ≤ vec_len watches) × (vec_len watches ≤ most_specs) }
+    requires scripts { (1 ≤ length scripts.now) × (length scripts.now ≤ most_scripts) }
     requires ready { (s : ℕ) (r : _) → slice_get watches.items s ≡ Some r
         → CanRun (M.meaning r.watch.fixed.definition) scripts.now s r.watch r.seats.items }
     ensures count { IfOk result (λ props. vec_len props ≡ vec_len watches) }
@@ -69,8 +70,8 @@ pub fn run_with_notes<M: Monitor + Send, G: Gate, R: Threads + Wait + Sync>(
 ) -> Result<Vec<Prop<M>>, NoMemory>
 where
     M::State: Send,
-    requires watches { (1 ≤ vec_len watches) × (vec_len watches ≤ 16) }
-    requires scripts { (1 ≤ length scripts.now) × (length scripts.now ≤ 16) }
+    requires watches { (1 ≤ vec_len watches) × (vec_len watches ≤ most_specs) }
+    requires scripts { (1 ≤ length scripts.now) × (length scripts.now ≤ most_scripts) }
     requires ready { (s : ℕ) (r : _) → slice_get watches.items s ≡ Some r
         → CanRun (M.meaning r.watch.fixed.definition) scripts.now s r.watch r.seats.items }
     requires cuts { AreCuts (length scripts.now) cuts.now }
@@ -99,8 +100,8 @@ fn run_as<
 ) -> Result<Vec<Prop<M>>, NoMemory>
 where
     M::State: Send,
-    requires watches { (1 ≤ vec_len watches) × (vec_len watches ≤ 16) }
-    requires scripts { (1 ≤ length scripts.now) × (length scripts.now ≤ 16) }
+    requires watches { (1 ≤ vec_len watches) × (vec_len watches ≤ most_specs) }
+    requires scripts { (1 ≤ length scripts.now) × (length scripts.now ≤ most_scripts) }
     requires ready { (s : ℕ) (r : _) → slice_get watches.items s ≡ Some r
         → CanRun (M.meaning r.watch.fixed.definition) scripts.now s r.watch r.seats.items }
     requires cuts { AreCuts (length scripts.now) cuts.now }

@@ -6,6 +6,7 @@ ghost use Rattle.jm_script.specs.Meanings.{RisesFrom};
 ghost use Rattle.jm_runner.specs.Orders.{KeepOrder};
 ghost use Rattle.jm_runner.specs.Notes.{KnowPosts, TakesPart};
 ghost use Rattle.jm_runner.specs.Work.{AreSeatsOf, DoesLine, DoesLineBelow, DoesStep, FitsWatch, FitsWatches, HaveDone};
+ghost use Rattle.jm_script.specs.Catalogs.{most_specs};
 
 use crate::gate::Gate;
 use crate::notices::Notices;
@@ -30,7 +31,7 @@ pub(crate) fn work<M: Monitor, J: Naming<M::Definition>, G: Gate>(
     notices: &Notices<M, J>,
     gate: &G,
 ) -> Result<Vec<Seat<M>>, NoMemory>
-    requires bounded { length watches.now ≤ 16 }
+    requires bounded { length watches.now ≤ most_specs }
     requires seats { HaveDone caller [] watches.now seats.items }
     requires fits { All (λ line. FitsWatches M.meaning watches.now line) script.now }
     requires part { TakesPart J.scripts J.cuts J.watches caller script.now cut.now.lines.items watches.now }
@@ -72,7 +73,7 @@ fn do_script<M: Monitor, J: Naming<M::Definition>, G: Gate>(
     gate: &G,
     passed: &mut usize,
 ) -> Result<(), NoMemory>
-    requires bounded { length watches.now ≤ 16 }
+    requires bounded { length watches.now ≤ most_specs }
     requires seats { HaveDone caller [] watches.now seats.old.items }
     requires fits { All (λ line. FitsWatches M.meaning watches.now line) script.now }
     requires part { TakesPart J.scripts J.cuts J.watches caller script.now cut.now.lines.items watches.now }
@@ -123,7 +124,7 @@ fn do_lines<M: Monitor, G: Gate>(
     to: usize,
     gate: &G,
 ) -> Result<(), NoMemory>
-    requires bounded { length watches.now ≤ 16 }
+    requires bounded { length watches.now ≤ most_specs }
     requires places { (from ≤ to) × (to ≤ length script.now) }
     requires seats { HaveDone caller (take from script.now) watches.now seats.old.items }
     requires fits { All (λ line. FitsWatches M.meaning watches.now line) script.now }
@@ -152,7 +153,7 @@ fn do_line<M: Monitor>(
     seats: &mut Vec<Seat<M>>,
     line: &ScriptLine,
 ) -> Result<(), NoMemory>
-    requires bounded { length watches.now ≤ 16 }
+    requires bounded { length watches.now ≤ most_specs }
     requires seats { AreSeatsOf watches.now seats.old.items }
     requires fits { FitsWatches M.meaning watches.now line.now }
     ensures { OnOk result (DoesLineBelow (length watches.now) watches.now line.now seats.old.items seats.new.items) }

@@ -4,6 +4,13 @@ use Rattle.std.specs.Option.{option_map_or}
 use Rattle.jm_model.specs.Words.{Text}
 use Rattle.jm_events.specs.Events.{EventDefinitions}
 
+-- how many specifications, and how many scripts, a command has at most
+abbrev pub most_specs : ℕ
+most_specs = 16
+
+abbrev pub most_scripts : ℕ
+most_scripts = 16
+
 -- a specification: its name, and its parameters and events
 pub record CatalogEntry : Type 0 where
   pub name : Text

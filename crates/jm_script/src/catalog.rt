@@ -1,7 +1,7 @@
 //! The specifications that scripts may name.
 ghost use Rattle.std.specs.Prelude.{◌≡◌, ◌<◌, ◌≤◌, [], ◌∷◌, ◌++◌, length, slice_get, option_map, IfOk, OnOk, OnErr, IfSome, IsErrOf, IsOkUnless, IsSome, None};
 ghost use Rattle.jm_events.specs.Names.{number_of};
-ghost use Rattle.jm_script.specs.Catalogs.{spec_names};
+ghost use Rattle.jm_script.specs.Catalogs.{spec_names, most_specs};
 
 use jm_events::{EventTable, Names};
 use jm_model::{SpecError, SpecFault};
@@ -39,7 +39,7 @@ impl Catalog {
 
     /// Adds a specification, and answers its number. The fault is `DuplicateSpec` where the name is there.
     pub fn add(&mut self, name: &str, table: EventTable) -> Result<u8, SpecError>
-        requires { length self.old < 16 }
+        requires { length self.old < most_specs }
         ensures refused { IsSome (number_of (spec_names self.old) name.now)
             → IsErrOf result (SpecError.Bad SpecFault.DuplicateSpec) }
         ensures accepted { number_of (spec_names self.old) name.now ≡ None → IsOkUnless result SpecError.NoMemory }
@@ -60,7 +60,7 @@ impl Catalog {
     /// How many specifications there are, at most 16.
     pub fn len(&self) -> u8
         ensures value { result ≡ length self.now }
-        ensures bounded { result ≤ 16 }
+        ensures bounded { result ≤ most_specs }
     {
         self.names.len() as u8
     }

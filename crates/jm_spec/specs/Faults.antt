@@ -38,10 +38,14 @@ abbrev pub advice_fault : List Mention → Option SpecFault
 advice_fault [] = None
 advice_fault (e ∷ es) = advice_or e.advice (advice_fault es)
 
+-- how many properties a specification has at most
+abbrev pub most_properties : ℕ
+most_properties = 16
+
 -- there are 1 to 16 properties
 abbrev pub property_fault : List Property → Option SpecFault
 property_fault [] = Some NoProperty
-property_fault (p ∷ ps) = if nat_lt 16 (length (p ∷ ps)) then Some (TooMany Properties) else None
+property_fault (p ∷ ps) = if nat_lt most_properties (length (p ∷ ps)) then Some (TooMany Properties) else None
 
 -- the name that a token of the bytes says, if it says one
 unfoldable pub name_of : Text → Token → Option Text

@@ -16,7 +16,7 @@ use Rattle.jm_spec.specs.declared.tree.Logic.{Logic}
 use Rattle.jm_spec.specs.declared.tree.PropertyTree.{PropertyTree}
 use Rattle.jm_spec.specs.declared.tree.SpecTree.{SpecTree}
 use Rattle.jm_spec.specs.Spelling.{Spells}
-use Rattle.jm_spec.specs.Faults.{logic_of, table_of, frame_fault}
+use Rattle.jm_spec.specs.Faults.{most_properties, logic_of, table_of, frame_fault}
 
 abbrev pub is_full_binding : Modifier → Bool
 is_full_binding FullBinding = true
@@ -53,7 +53,7 @@ properties_of tree = map facts_of tree.properties.items
 
 -- there are 1 to 16 properties
 abbrev pub IsFewProperties : SpecTree → Type 0
-IsFewProperties tree = (0 < length tree.properties.items) × (length tree.properties.items ≤ 16)
+IsFewProperties tree = (0 < length tree.properties.items) × (length tree.properties.items ≤ most_properties)
 
 -- these are the facts of the property
 pub record TellsProperty (bytes : Text) (p : Property) (facts : PropertyFacts) : Type 0 where

@@ -2,7 +2,7 @@
 ghost use Rattle.std.specs.Prelude.{ℕ, ◌≡◌, ◌<◌, ◌≤◌, ◌^◌, [], ◌∷◌, bit_or, length, map, option_map, IfOk, IfErr, None, Some};
 ghost use Rattle.std.specs.List.{list_any};
 ghost use Rattle.jm_reading.specs.Faults.{fault_of, Refuses, Checks, Makes};
-ghost use Rattle.jm_spec.specs.Faults.{modifier_fault, advice_fault, property_fault, name_of, logic_named, logic_of, logic_fault, unless_known, with_params, with_param, with_names, with_bit, number_said, with_events, with_advice, with_mention, table_of, frame_fault};
+ghost use Rattle.jm_spec.specs.Faults.{modifier_fault, advice_fault, property_fault, name_of, logic_named, logic_of, logic_fault, unless_known, with_params, with_param, with_names, with_bit, number_said, with_events, with_advice, with_mention, table_of, frame_fault, most_properties};
 ghost use Rattle.jm_spec.specs.Trees.{is_full_binding, suffix_of, facts_of, IsFewProperties, TellsProperty, TellsProperties, IsTreeOf};
 
 use crate::events::{Advice, Mention};
@@ -134,7 +134,7 @@ fn check_advice(events: &[Mention]) -> Result<(), SpecError>
 /// 1 to 16 properties.
 fn check_property_count(properties: &[Property]) -> Result<(), SpecError>
     ensures checked { Checks result (property_fault properties.now) }
-    ensures bounded { IfOk result (λ _. (0 < length properties.now) × (length properties.now ≤ 16)) }
+    ensures bounded { IfOk result (λ _. (0 < length properties.now) × (length properties.now ≤ most_properties)) }
 {
     if properties.is_empty() {
         return Err(SpecError::Bad(SpecFault::NoProperty));

@@ -5,6 +5,10 @@ use Rattle.jm_model.specs.declared.fault.SpecError.{SpecError}
 use Rattle.jm_model.specs.declared.fault.SpecError.TheVariants.{Bad, NoMemory}
 use Rattle.jm_table.specs.Graphs.{GraphMeaning, IsReached, reached_by}
 
+-- how many states a table has at most
+abbrev pub most_states : ℕ
+most_states = 1024
+
 -- The order of work: breadth first, letters in order. State k is what was found as the k-th. Step n takes letter
 -- n % letters of state n / letters.
 
@@ -19,7 +23,7 @@ module _ {D : Type 0} where
   Finds found (Err fault) after = after ≡ Err fault
   Finds found (Ok d) after =
       (Contains found d × (after ≡ Ok found))
-      ⊎ ((Contains found d → ⊥) × (after ≡ (if length found == 1024 then Err TooManyStates else Ok (found ++ d ∷ []))))
+      ⊎ ((Contains found d → ⊥) × (after ≡ (if length found == most_states then Err TooManyStates else Ok (found ++ d ∷ []))))
 
   -- Step n, which does nothing where its state isn't there; a fault is final.
   abbrev pub Works : GraphMeaning D → ℕ → ℕ → Result (List D) SpecFault → Result (List D) SpecFault → Type 0
@@ -40,7 +44,7 @@ module _ {D : Type 0} where
 
   -- what is found when all work is done, which are the steps of at most 1,024 states
   abbrev pub IsExplored : GraphMeaning D → ℕ → Result (List D) SpecFault → Type 0
-  IsExplored g letters after = IsFoundIn g letters (1024 * letters) after
+  IsExplored g letters after = IsFoundIn g letters (most_states * letters) after
 
   -- more data is reached than a table may have states
   pub record IsCrowded (g : GraphMeaning D) (letters : ℕ) : Type 0 where
@@ -64,7 +68,7 @@ module _ {D : Type 0} where
   -- n steps are done: this is what is found, and each next state so far is that of its step
   pub record IsInWork (g : GraphMeaning D) (letters n : ℕ) (found : List D) (next : List ℕ) : Type 0 where
     pub steps : IsFoundIn g letters n (Ok found)
-    pub few : length found ≤ 1024
+    pub few : length found ≤ most_states
     pub count : length next ≡ n
     pub each : (m : ℕ) → m < n → LeadsTo g letters found m (slice_index next m)
 

@@ -1,6 +1,6 @@
 use Rattle.std.specs.Prelude.{ℕ, ◌≡◌, ◌<◌, ◌≤◌, ◌+◌, ◌*◌, List, length, All, Contains, Some, Ok, IsSomeAnd, slice_get, slice_index, fold}
 use Rattle.jm_table.specs.Graphs.{GraphMeaning, reached_by}
-use Rattle.jm_table.specs.Explorations.{IsWithoutRepeats}
+use Rattle.jm_table.specs.Explorations.{most_states, IsWithoutRepeats}
 
 -- A table of transitions: its states and letters are the numbers below these, state 0 is the start, the next states
 -- stand state by state and letter by letter, and each group is the list of its states.
@@ -26,15 +26,19 @@ state_after_of t word = state_from t 0 word
 abbrev pub IsInGroup : Transitions → ℕ → ℕ → Type 0
 IsInGroup t state group = IsSomeAnd (slice_get t.groups group) (λ states. Contains states state)
 
+-- how many groups a table has at most
+abbrev pub most_groups : ℕ
+most_groups = 65535
+
 -- between 1 and 1,024 states, at most 32 letters, a next state that is there for each state and letter, and fewer
 -- than 65,536 groups
 pub record IsTable (t : Transitions) : Type 0 where
   pub some_states : 0 < t.states
-  pub few_states : t.states ≤ 1024
+  pub few_states : t.states ≤ most_states
   pub few_letters : t.letters ≤ 32
   pub whole : length t.next ≡ t.states * t.letters
   pub within : All (λ state. state < t.states) t.next
-  pub few_groups : length t.groups ≤ 65535
+  pub few_groups : length t.groups ≤ most_groups
 
 -- the word has only letters of the table
 abbrev pub IsWord : Transitions → List ℕ → Type 0

@@ -1,7 +1,7 @@
 ghost use Rattle.std.specs.Prelude.{ℕ, ◌≡◌, ◌≢◌, ◌<◌, ◌≤◌, ◌+◌, ◌*◌, ◌⊎◌, [], ◌∷◌, ◌++◌, Some, Ok, Err, List, Contains, IfOk, IfErr, MatchOption, OnOk, IsOkUnless, MatchResult, map, length, slice_get, vec_len};
 ghost use Rattle.jm_model.specs.declared.fault.SpecFault.{SpecFault};
 ghost use Rattle.jm_table.specs.Graphs.{Answers};
-ghost use Rattle.jm_table.specs.Explorations.{Finds, IsExplored, IsInWork, IsMet, IsCrowded, IfBad, first_found};
+ghost use Rattle.jm_table.specs.Explorations.{Finds, IsExplored, IsInWork, IsMet, IsCrowded, IfBad, first_found, most_states};
 ghost use Rattle.jm_table.specs.Tables.{Follows, Transitions};
 ghost use Rattle.jm_table.specs.Buckets.{IsIndex};
 
@@ -108,7 +108,7 @@ fn follow<G: Graph>(
     letter: Letter,
 ) -> Result<(), SpecError>
     requires state { state < vec_len work.old.nodes }
-    requires bounded { vec_len work.old.nodes ≤ 1024 }
+    requires bounded { vec_len work.old.nodes ≤ most_states }
     requires index { IsIndex (G.key_of graph.now) (map (G.data_of graph.now) work.old.nodes.items) work.old.known }
     ensures finds { (d : _) → slice_get (map (G.data_of graph.now) work.old.nodes.items) state ≡ Some d →
         OnOk result (Finds (map (G.data_of graph.now) work.old.nodes.items) ((G.meaning graph.now).step d letter.0)
@@ -131,7 +131,7 @@ fn follow<G: Graph>(
 
 /// The number of a node, which is a new one where no known node stands for the same.
 fn number<G: Graph>(graph: &G, work: &mut Work<G::Node>, node: G::Node) -> Result<u16, SpecError>
-    requires bounded { vec_len work.old.nodes ≤ 1024 }
+    requires bounded { vec_len work.old.nodes ≤ most_states }
     requires index { IsIndex (G.key_of graph.now) (map (G.data_of graph.now) work.old.nodes.items) work.old.known }
     ensures finds { OnOk result (Finds (map (G.data_of graph.now) work.old.nodes.items) (Ok (G.data_of graph.now node))
         (Ok (map (G.data_of graph.now) work.new.nodes.items))) }
@@ -154,7 +154,7 @@ fn number<G: Graph>(graph: &G, work: &mut Work<G::Node>, node: G::Node) -> Resul
 
 /// The number of a known node that stands for the same.
 fn find<G: Graph>(graph: &G, work: &Work<G::Node>, node: &G::Node) -> Option<u16>
-    requires bounded { vec_len work.now.nodes ≤ 1024 }
+    requires bounded { vec_len work.now.nodes ≤ most_states }
     requires index { IsIndex (G.key_of graph.now) (map (G.data_of graph.now) work.now.nodes.items) work.now.known }
     ensures { MatchOption result
         (Contains (map (G.data_of graph.now) work.now.nodes.items) (G.data_of graph.now node.now) → ⊥)
@@ -171,7 +171,7 @@ fn find<G: Graph>(graph: &G, work: &Work<G::Node>, node: &G::Node) -> Option<u16
 
 /// Makes a node known, and gives it the next number.
 fn append<G: Graph>(graph: &G, work: &mut Work<G::Node>, node: G::Node) -> Result<u16, SpecError>
-    requires bounded { vec_len work.old.nodes < 1024 }
+    requires bounded { vec_len work.old.nodes < most_states }
     requires index { IsIndex (G.key_of graph.now) (map (G.data_of graph.now) work.old.nodes.items) work.old.known }
     ensures fault { IfErr result (λ e. e ≡ SpecError.NoMemory) }
     ensures number { IfOk result (λ number. number ≡ vec_len work.old.nodes) }

@@ -1,5 +1,5 @@
 //! The members of a group, as places of a list.
-ghost use Rattle.std.specs.Prelude.{◌≤◌, IfOk, length};
+ghost use Rattle.std.specs.Prelude.{◌≤◌, ◌^◌, IfOk, length};
 ghost use Rattle.std.specs.Fn.{FnReturnsAt};
 ghost use Rattle.jm_table.specs.Members.{ArePlaces};
 
@@ -12,7 +12,7 @@ pub fn places<T, F: Fn(&T) -> bool + Drop>(
     items: &[T],
     holds: F,
 ) -> Result<Vec<u16>, NoMemory>
-    requires bounded { length items.now ≤ 65536 }
+    requires bounded { length items.now ≤ 2 ^ 16 }
     requires calls { F.IsAlwaysCallable holds }
     ensures { IfOk result (λ v. ArePlaces (FnReturnsAt F.Fn holds) items.now (length items.now) v.items) }
 {

@@ -2,6 +2,7 @@ ghost use Rattle.std.specs.Prelude.{ℕ, ◌≡◌, ◌<◌, ◌≤◌, ◌+◌,
 ghost use Rattle.jm_table.specs.Tables.{Transitions, IsTable, next_of, IsInGroup};
 ghost use Rattle.jm_table.specs.Minimal.{IsReduced, IsReachable, HaveSameGroups};
 ghost use Rattle.jm_table.specs.Partitions.{IsPartition, IsQuotient};
+ghost use Rattle.jm_table.specs.Explorations.{most_states};
 
 use crate::partition::Partition;
 use crate::refinement::equivalence;
@@ -73,7 +74,7 @@ fn classes_in(
 ) -> Result<Vec<u16>, NoMemory>
     requires partition { IsPartition table.now.states partition.now.classes.items partition.now.firsts.items }
     requires group { group < length table.now.groups }
-    requires bounded { length partition.now.firsts.items ≤ 1024 }
+    requires bounded { length partition.now.firsts.items ≤ most_states }
     ensures within { IfOk result (λ members. All (λ class. class < length partition.now.firsts.items) members.items) }
     ensures exact { IfOk result (λ members. (class : ℕ) → class < length partition.now.firsts.items →
         Contains members.items class ↔ IsInGroup table.now (slice_index partition.now.firsts.items class) group) }

@@ -1,5 +1,6 @@
 ghost use Rattle.std.specs.Prelude.{ℕ, ◌≡◌, ◌<◌, ◌≤◌, ◌+◌, ◌*◌, ◌↔◌, IsTrue, IfOk, OnOk, length, slice_index};
 ghost use Rattle.jm_table.specs.Partitions.{IsPartition, IsKnown, AreGiven, AreGivenOn, FitClasses, AreNumbered};
+ghost use Rattle.jm_table.specs.Explorations.{most_states};
 
 use jm_model::NoMemory;
 use std::alloc::Global;
@@ -31,7 +32,7 @@ impl Partition {
     pub(crate) fn split(&mut self, alloc: Global, keys: &[u16]) -> Result<(), NoMemory>
         requires partition { IsPartition (length keys.now) self.old.classes.items self.old.firsts.items }
         requires fit { FitClasses (length keys.now) self.old.firsts.items keys.now }
-        requires bounded { length keys.now ≤ 1024 }
+        requires bounded { length keys.now ≤ most_states }
         ensures { OnOk result (AreNumbered (length keys.now) keys.now self.old.firsts.items
             self.new.classes.items self.new.firsts.items) }
     {
@@ -66,7 +67,7 @@ fn number_of(
     state: usize,
 ) -> Result<u16, NoMemory>
     requires state { state < length keys.now }
-    requires bounded { length keys.now ≤ 1024 }
+    requires bounded { length keys.now ≤ most_states }
     requires room { length firsts.old.items < 2048 }
     requires key { slice_index keys.now state < length numbers.old.items }
     requires given { AreGiven (length keys.now) keys.now numbers.old.items firsts.old.items }

@@ -1,5 +1,5 @@
 ghost use Rattle.std.specs.Prelude.{ℕ, ◌≡◌, ◌<◌, ◌≤◌, ◌*◌, ◌↔◌, List, [], ◌∷◌, ◌++◌, length, map, All, Contains, IsTrue, IfOk, OnErr, vec_len};
-ghost use Rattle.jm_table.specs.Tables.{IsTable, next_of, state_after_of, IsInGroup};
+ghost use Rattle.jm_table.specs.Tables.{IsTable, next_of, state_after_of, IsInGroup, most_groups};
 
 use crate::number_set::NumberSet;
 use jm_model::{Letter, NoMemory};
@@ -126,7 +126,7 @@ impl Table {
     /// Adds a group of states, and answers its number.
     pub fn add_group(&mut self, states: &[u16]) -> Result<u16, NoMemory>
         requires states { All (λ state. state < self.old.states) states.now }
-        requires room { length self.old.groups < 65535 }
+        requires room { length self.old.groups < most_groups }
         ensures number { IfOk result (λ group. group ≡ length self.old.groups) }
         ensures ok { IfOk result (λ _. (members : List ℕ)
             × (self.new ≡ record self.old { groups = self.old.groups ++ members ∷ [] })

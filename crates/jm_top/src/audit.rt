@@ -4,6 +4,7 @@ ghost use Rattle.jm_audit.specs.Verdicts.{IsVerdict};
 ghost use Rattle.jm_inputs.specs.Reading.{specs_in, IsCatalogued, AreCounted};
 ghost use Rattle.jm_top.specs.Histories.{IsTextOfHistories};
 ghost use Rattle.jm_top.specs.Texts.{verdict_text, IsTextOfVerdict};
+ghost use Rattle.jm_script.specs.Catalogs.{most_specs, most_scripts};
 
 use jm_audit::{Sheet, Verdict, audit};
 use jm_inputs::Inputs;
@@ -16,8 +17,8 @@ pub(crate) fn verdict_on(
     inputs: &Inputs,
     history: &[u8],
 ) -> Result<Vec<u8>, NoMemory>
-    requires specs { length inputs.now.library.specs.items ≤ 16 }
-    requires scripts { length inputs.now.scripts.list.items ≤ 16 }
+    requires specs { length inputs.now.library.specs.items ≤ most_specs }
+    requires scripts { length inputs.now.scripts.list.items ≤ most_scripts }
     requires catalogued { IsCatalogued inputs.now.library }
     requires counted { AreCounted (specs_in inputs.now.library) inputs.now.scripts }
     ensures { IfOk result (λ text. IsTextOfVerdict (specs_in inputs.now.library) inputs.now.scripts.list.items
@@ -29,8 +30,8 @@ pub(crate) fn verdict_on(
 
 /// The verdict on a history.
 fn verdict(alloc: Global, inputs: &Inputs, history: &[u8]) -> Result<Verdict, NoMemory>
-    requires specs { length inputs.now.library.specs.items ≤ 16 }
-    requires scripts { length inputs.now.scripts.list.items ≤ 16 }
+    requires specs { length inputs.now.library.specs.items ≤ most_specs }
+    requires scripts { length inputs.now.scripts.list.items ≤ most_scripts }
     requires catalogued { IsCatalogued inputs.now.library }
     requires counted { AreCounted (specs_in inputs.now.library) inputs.now.scripts }
     ensures { IfOk result (IsVerdict (IsTextOfHistories (specs_in inputs.now.library) inputs.now.scripts.list.items

@@ -4,6 +4,7 @@ ghost use Rattle.jm_sync.specs.Checks.{sync_of};
 ghost use Rattle.jm_top.specs.Histories.{IsTextOfOrdered, IsTextOfSummaries};
 ghost use Rattle.jm_inputs.specs.Reading.{specs_in};
 ghost use Rattle.jm_top.specs.Runs.{CanRunOver, IsWatchOf, AreWatchesOf, AreRunsOf};
+ghost use Rattle.jm_script.specs.Catalogs.{most_scripts};
 
 use crate::histories::{ended_of, histories_text, summaries_text};
 use jm_core::Prop;
@@ -125,7 +126,7 @@ fn dispatchers(
     objects: u32,
     seats: u32,
 ) -> Result<TitledDispatchers, NoMemory>
-    requires { (1 ≤ seats) × (seats ≤ 16) }
+    requires { (1 ≤ seats) × (seats ≤ most_scripts) }
     ensures titles { IfOk result (λ w. w.titles.items ≡ map (λ l. l.titles) specs.items) }
     ensures watches { IfOk result (λ w. AreWatchesOf objects seats specs.items (map (λ r. r.watch) w.watches.items)
         (map (λ r. r.seats.items) w.watches.items)) }
@@ -148,7 +149,7 @@ fn dispatcher(
     objects: u32,
     seats: u32,
 ) -> Result<Running<Rules>, NoMemory>
-    requires { (1 ≤ seats) × (seats ≤ 16) }
+    requires { (1 ≤ seats) × (seats ≤ most_scripts) }
     ensures { IfOk result (λ r. IsWatchOf objects seats rules r.watch r.seats.items) }
 {
     let (watch, seats) = Watch::new(alloc, rules, objects, seats)?;

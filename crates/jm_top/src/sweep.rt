@@ -15,6 +15,7 @@ ghost use Rattle.jm_top.specs.Replays.{IsReplayOf, IsPrintedReplay};
 ghost use Rattle.jm_inputs.specs.Scripts.{catalog_of, IsScriptFault};
 ghost use Rattle.jm_inputs.specs.Specifications.{most_bytes};
 ghost use Rattle.jm_top.specs.Sweeps.{IsOfOne, CanReplay, IsPieceOf, HasPart, IsSweptWhole};
+ghost use Rattle.jm_script.specs.Meanings.{most_steps};
 
 use jm_events::{EventTable, Names};
 use jm_history::History;
@@ -154,7 +155,7 @@ fn add_part(
 ) -> Result<u32, Status>
     requires library { IsOfOne library.now }
     requires small { length part.now ≤ most_bytes }
-    requires bounded { count ≤ 200000 }
+    requires bounded { count ≤ most_steps }
     requires piece { IfOk piece.now (IsPieceOf (specs_in library.now) 0 part.now) }
     ensures ok { IfOk result (HasPart (specs_in library.now) count part.now text.old.items text.new.items) }
     ensures err { IfErr result (IsNoScriptIn (specs_in library.now) count [] number part.now) }
@@ -170,7 +171,7 @@ fn add_part(
 
 /// Adds the text of a piece that stands after a number of steps, and gives how many steps there are then.
 fn add_piece(count: u32, piece: &Piece, text: &mut Vec<u8>) -> Result<u32, Status>
-    requires { count + piece.now.steps ≤ 200000 }
+    requires { count + piece.now.steps ≤ most_steps }
     ensures value { IfOk result (λ then. then ≡ count + piece.now.steps) }
     ensures text { OnOk result (text.new.items ≡ text.old.items ++ piece.now.text.items) }
     ensures err { IfErr result (λ status. status ≡ Status.NoMemory) }
@@ -191,9 +192,9 @@ fn piece_after(
 ) -> Result<Piece, Status>
     requires library { IsOfOne library.now }
     requires small { length part.now ≤ most_bytes }
-    requires bounded { count ≤ 200000 }
+    requires bounded { count ≤ most_steps }
     ensures ok { IfOk result (IsPieceOf (specs_in library.now) count part.now) }
-    ensures bounded { IfOk result (λ piece. count + piece.steps ≤ 200000) }
+    ensures bounded { IfOk result (λ piece. count + piece.steps ≤ most_steps) }
     ensures err { IfErr result (IsNoScriptIn (specs_in library.now) count [] number part.now) }
 {
     match piece_of(alloc, library, part, count) {
@@ -212,9 +213,9 @@ fn piece_after(
 fn piece_of(alloc: Global, library: &Library, part: &[u8], count: u32) -> Result<Piece, ScriptError>
     requires library { IsOfOne library.now }
     requires small { length part.now ≤ most_bytes }
-    requires bounded { count ≤ 200000 }
+    requires bounded { count ≤ most_steps }
     ensures ok { IfOk result (IsPieceOf (specs_in library.now) count part.now) }
-    ensures bounded { IfOk result (λ piece. count + piece.steps ≤ 200000) }
+    ensures bounded { IfOk result (λ piece. count + piece.steps ≤ most_steps) }
     ensures fault { (fault : ScriptFault) → result ≡ Err (ScriptError.Bad fault)
         → IsScriptFault (specs_in library.now) count [] part.now fault }
 {
