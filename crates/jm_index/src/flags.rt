@@ -9,6 +9,9 @@ use jm_objects::Objects;
 use std::alloc::Global;
 use std::marker::Model;
 
+/// How many objects have their flags in a block of 64 words.
+pub(crate) const BLOCK: u32 = 4096;
+
 /// Flags, 64 in a word. Contracts see them as a list.
 #[derive(Drop)]
 pub(crate) struct Flags {
@@ -140,8 +143,8 @@ impl Flags {
 
     /// Whether of the objects of a block of 64 words each dead one that has a flag has it set.
     pub(crate) fn has_dead_of_block(&self, objects: &Objects, block: u32) -> bool
-        requires { 4096 * block < length objects.now }
-        ensures { IsTrue result → (o : ℕ) → o / 4096 ≡ block → flag_of objects.now o ≡ true → o < length self.now
+        requires { BLOCK * block < length objects.now }
+        ensures { IsTrue result → (o : ℕ) → o / BLOCK ≡ block → flag_of objects.now o ≡ true → o < length self.now
             → flag_of self.now o ≡ true }
     {
         let known = self.words.as_slice();

@@ -4,7 +4,7 @@ ghost use Rattle.jm_model.specs.Bindings.{mask_of, restriction};
 ghost use Rattle.jm_index.specs.Index.{Pair, flag_of, Binds, IsKey, IsKeyed, AreBelow, IsFitting, AreLive, HasDied, AreListed, without, asked_slots};
 
 use crate::entry::{Entry, NoRoom};
-use crate::flags::Flags;
+use crate::flags::{BLOCK, Flags};
 use crate::positions::Positions;
 use crate::trees::Trees;
 use jm_model::{Binding, NoMemory};
@@ -270,7 +270,7 @@ impl Index {
         ensures room { vec_capacity slots.new ≡ vec_capacity slots.old }
         ensures full { OnErr result (length slots.new.items ≡ vec_capacity slots.new) }
     {
-        for block in 0..objects.len().div_ceil(4096) {
+        for block in 0..objects.len().div_ceil(BLOCK) {
             if !self.has_dropped_block(objects, block) {
                 self.add_slots_of_dead_in(objects, block, slots)?;
             }
@@ -285,10 +285,10 @@ impl Index {
         block: u32,
         slots: &mut Vec<usize>,
     ) -> Result<(), NoRoom>
-        requires { 4096 * block < length objects.now }
+        requires { BLOCK * block < length objects.now }
         ensures kept { OnOk result ((k : ℕ) → Contains slots.old.items k → Contains slots.new.items k) }
         ensures all { OnOk result
-            (AreListed self.now (λ o. (o / 4096 ≡ block) × HasDied self.now objects.now o) slots.new.items) }
+            (AreListed self.now (λ o. (o / BLOCK ≡ block) × HasDied self.now objects.now o) slots.new.items) }
         ensures room { vec_capacity slots.new ≡ vec_capacity slots.old }
         ensures full { OnErr result (length slots.new.items ≡ vec_capacity slots.new) }
     {
@@ -381,7 +381,7 @@ impl Index {
         ensures keys { (o : ℕ) → IsKey self.new o → flag_of objects.now o ≡ false }
         ensures fits { IsFitting self.new objects.now }
     {
-        for block in 0..objects.len().div_ceil(4096) {
+        for block in 0..objects.len().div_ceil(BLOCK) {
             if !self.has_dropped_block(objects, block) {
                 self.drop_dead_in(objects, block);
             }
@@ -390,10 +390,10 @@ impl Index {
 
     /// Drops the dead among the objects of a block of 64 words.
     fn drop_dead_in(&mut self, objects: &Objects, block: u32)
-        requires block { 4096 * block < length objects.now }
+        requires block { BLOCK * block < length objects.now }
         requires keyed { IsKeyed self.old }
         ensures list { self.new.list ≡ self.old.list }
-        ensures gone { (o : ℕ) → o / 4096 ≡ block → flag_of objects.now o ≡ true → IsKey self.new o → ⊥ }
+        ensures gone { (o : ℕ) → o / BLOCK ≡ block → flag_of objects.now o ≡ true → IsKey self.new o → ⊥ }
         ensures fewer { (o : ℕ) → IsKey self.new o → IsKey self.old o }
         ensures keyed { IsKeyed self.new }
         ensures only { (o : ℕ) → flag_of self.new.dropped o ≡ true
@@ -420,11 +420,11 @@ impl Index {
 
     /// Whether of the objects of a block of 64 words no dead one is a key, and each one in a pair was dropped.
     fn has_dropped_block(&self, objects: &Objects, block: u32) -> bool
-        requires { 4096 * block < length objects.now }
-        ensures keys { IsTrue result → (o : ℕ) → o / 4096 ≡ block → flag_of objects.now o ≡ true
+        requires { BLOCK * block < length objects.now }
+        ensures keys { IsTrue result → (o : ℕ) → o / BLOCK ≡ block → flag_of objects.now o ≡ true
             → IsKey self.now o → ⊥ }
         ensures pairs { IsTrue result → (pair : Pair) (o : ℕ) → Contains self.now.list pair → Binds pair.binding o
-            → o / 4096 ≡ block → flag_of objects.now o ≡ true → flag_of self.now.dropped o ≡ true }
+            → o / BLOCK ≡ block → flag_of objects.now o ≡ true → flag_of self.now.dropped o ≡ true }
     {
         self.dropped.has_dead_of_block(objects, block)
     }
