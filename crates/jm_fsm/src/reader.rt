@@ -9,7 +9,7 @@ ghost use Rattle.jm_fsm.specs.Rules.{fallback_at, listed_at, transition_at, comm
 
 use crate::formula::{Part, TransitionText};
 use jm_model::SpecError;
-use jm_reading::{Cursor, Gathered, Items, gather};
+use jm_reading::{Cursor, Items, Repeat, fold_many};
 use jm_text::Token;
 
 /// "default" NAME
@@ -59,10 +59,10 @@ fn comma(cursor: &mut Cursor<'_>) -> Result<(), SpecError>
 /// Transition [ "," ], up to a `]`
 struct Entry;
 
-impl Gathered for Entry {
-    type Whole = Items<TransitionText>;
+impl Repeat for Entry {
+    type Accumulator = Items<TransitionText>;
 
-    ghost goes_on = { is_inside };
+    ghost continues = { is_inside };
 
     ghost more = { λ _. with_item entry_at };
 
@@ -89,7 +89,7 @@ fn declaration(cursor: &mut Cursor<'_>) -> Result<Part, SpecError>
 {
     let name = cursor.name()?;
     cursor.mark(b"[")?;
-    let transitions = gather(&Entry, Items::new(cursor.alloc), cursor)?;
+    let transitions = fold_many(&Entry, Items::new(cursor.alloc), cursor)?;
     cursor.mark(b"]")?;
     Ok(Part::Declaration { name, transitions })
 }
@@ -97,10 +97,10 @@ fn declaration(cursor: &mut Cursor<'_>) -> Result<Part, SpecError>
 /// "," NAME
 struct MoreMember;
 
-impl Gathered for MoreMember {
-    type Whole = Items<Token>;
+impl Repeat for MoreMember {
+    type Accumulator = Items<Token>;
 
-    ghost goes_on = { begins_more_member };
+    ghost continues = { begins_more_member };
 
     ghost more = { λ _. with_item more_member_at };
 
@@ -123,7 +123,7 @@ fn alias(cursor: &mut Cursor<'_>) -> Result<Part, SpecError>
     let name = cursor.name()?;
     cursor.mark(b"=")?;
     let first = Items::new(cursor.alloc).with(cursor.name()?)?;
-    let members = gather(&MoreMember, first, cursor)?;
+    let members = fold_many(&MoreMember, first, cursor)?;
     Ok(Part::Alias { name, members })
 }
 
@@ -142,10 +142,10 @@ fn part(cursor: &mut Cursor<'_>) -> Result<Part, SpecError>
 /// A state or an alias, up to the end.
 struct OnePart;
 
-impl Gathered for OnePart {
-    type Whole = Items<Part>;
+impl Repeat for OnePart {
+    type Accumulator = Items<Part>;
 
-    ghost goes_on = { is_left };
+    ghost continues = { is_left };
 
     ghost more = { λ _. with_item part_at };
 
@@ -164,7 +164,7 @@ pub fn formula(cursor: &mut Cursor<'_>) -> Result<Items<Part>, SpecError>
     ensures gives { Gives result (formula_at cursor.old.bytes.now cursor.old.rest.now) }
     ensures state { IfOk result (λ parts. list_any is_state parts ≡ true) }
 {
-    let parts = gather(&OnePart, Items::new(cursor.alloc), cursor)?;
+    let parts = fold_many(&OnePart, Items::new(cursor.alloc), cursor)?;
     if has_state(parts.as_slice()) {
         Ok(parts)
     } else {

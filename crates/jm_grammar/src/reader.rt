@@ -5,16 +5,16 @@ ghost use Rattle.jm_grammar.specs.Rules.{begins_symbol, alternative_at, begins_m
 
 use crate::formula::Part;
 use jm_model::SpecError;
-use jm_reading::{Cursor, Gathered, Items, gather};
+use jm_reading::{Cursor, Items, Repeat, fold_many};
 use jm_text::Token;
 
 /// NAME | "epsilon"
 struct Symbol;
 
-impl Gathered for Symbol {
-    type Whole = Items<Token>;
+impl Repeat for Symbol {
+    type Accumulator = Items<Token>;
 
-    ghost goes_on = { begins_symbol };
+    ghost continues = { begins_symbol };
 
     ghost more = { λ _. with_item name_at };
 
@@ -33,16 +33,16 @@ fn alternative(cursor: &mut Cursor<'_>) -> Result<Items<Token>, SpecError>
     ensures { Takes cursor.old result cursor.new alternative_at }
 {
     let first = Items::new(cursor.alloc).with(cursor.name()?)?;
-    gather(&Symbol, first, cursor)
+    fold_many(&Symbol, first, cursor)
 }
 
 /// "|" Alternative
 struct MoreAlternative;
 
-impl Gathered for MoreAlternative {
-    type Whole = Items<Items<Token>>;
+impl Repeat for MoreAlternative {
+    type Accumulator = Items<Items<Token>>;
 
-    ghost goes_on = { begins_more_alternative };
+    ghost continues = { begins_more_alternative };
 
     ghost more = { λ _. with_item more_alternative_at };
 
@@ -68,17 +68,17 @@ fn part(cursor: &mut Cursor<'_>) -> Result<Part, SpecError>
     let left = cursor.name()?;
     cursor.mark(b"->")?;
     let first = Items::new(cursor.alloc).with(alternative(cursor)?)?;
-    let alternatives = gather(&MoreAlternative, first, cursor)?;
+    let alternatives = fold_many(&MoreAlternative, first, cursor)?;
     Ok(Part { left, alternatives })
 }
 
 /// "," Production, up to the end
 struct MorePart;
 
-impl Gathered for MorePart {
-    type Whole = Items<Part>;
+impl Repeat for MorePart {
+    type Accumulator = Items<Part>;
 
-    ghost goes_on = { is_left };
+    ghost continues = { is_left };
 
     ghost more = { λ _. with_item more_part_at };
 
@@ -98,5 +98,5 @@ pub fn formula(cursor: &mut Cursor<'_>) -> Result<Items<Part>, SpecError>
     ensures { Takes cursor.old result cursor.new formula_at }
 {
     let first = Items::new(cursor.alloc).with(part(cursor)?)?;
-    gather(&MorePart, first, cursor)
+    fold_many(&MorePart, first, cursor)
 }

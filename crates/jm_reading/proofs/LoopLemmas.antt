@@ -7,7 +7,7 @@ use Rattle.jm_model.specs.declared.fault.SpecFault.TheVariants.{Syntax}
 use Rattle.jm_reading.specs.declared.cursor.Cursor.{Cursor}
 use Rattle.jm_reading.specs.Answers.{FailsAt}
 use Rattle.jm_reading.specs.Reading.{at_most}
-use Rattle.jm_reading.specs.Taking.{Rule, Takes, gathered_at}
+use Rattle.jm_reading.specs.Taking.{Rule, Takes, folded_at}
 
 module _ {X : Type 0} (goes_on : List Token → Bool) (item : X → List Token → Option (X × List Token)) where
   pub items_stop : (n : ℕ) (xs : X) (tokens : List Token) → goes_on tokens ≡ false → at_most goes_on item n xs tokens ≡ Some (xs, tokens)
@@ -55,7 +55,7 @@ fails_too NoMemory read whole h k = tt
 fails_too (Bad (Syntax line)) read whole h k = k h
 fails_too (Bad _) read whole h k = h
 
--- ---- the loop of `gather`
+-- ---- the loop of `fold_many`
 
 -- what is left to read, after what was read, is what the loop began with
 pub record IsLeft {X : Type 0} (goes : List ℕ → List Token → Bool) (rule : X → Rule X) (start : Cursor) (first : X) (n : ℕ) (rest : Cursor) (x : X) : Type 0 where
@@ -76,16 +76,16 @@ module _ {X : Type 0} (goes : List ℕ → List Token → Bool) (rule : X → Ru
     same_rule : more x rest.rest.now ≡ rule x rest.bytes.now rest.rest.now
     same_rule = ap (λ bytes. rule x bytes rest.rest.now) (sym s.bytes)
 
-    pub all_gathered : false ≡ goes rest.bytes.now rest.rest.now → Takes start (Ok x) rest (gathered_at goes rule first)
-    unfolding gathered_at
+    pub all_gathered : false ≡ goes rest.bytes.now rest.rest.now → Takes start (Ok x) rest (folded_at goes rule first)
+    unfolding folded_at
     all_gathered h = (s.bytes, sym s.whole ∙ items_stop on more n x rest.rest.now (same_on false h))
 
-    pub none_gathered : (e : SpecError) → true ≡ goes rest.bytes.now rest.rest.now → FailsAt e (rule x rest.bytes.now rest.rest.now) → FailsAt e (gathered_at goes rule first start.bytes.now start.rest.now)
-    unfolding gathered_at
+    pub none_gathered : (e : SpecError) → true ≡ goes rest.bytes.now rest.rest.now → FailsAt e (rule x rest.bytes.now rest.rest.now) → FailsAt e (folded_at goes rule first start.bytes.now start.rest.now)
+    unfolding folded_at
     none_gathered e h fails = fails_too e _ _ fails (λ none. sym s.whole ∙ items_break on more n x rest.rest.now (same_on true h) (same_rule ∙ none))
 
-    pub too_many : n ≡ 0 → true ≡ goes rest.bytes.now rest.rest.now → gathered_at goes rule first start.bytes.now start.rest.now ≡ None
-    unfolding gathered_at
+    pub too_many : n ≡ 0 → true ≡ goes rest.bytes.now rest.rest.now → folded_at goes rule first start.bytes.now start.rest.now ≡ None
+    unfolding folded_at
     too_many z h = sym s.whole ∙ rw (z, same_on true h) refl
 
   pub one_gathered : (n k : ℕ) (y : X) (after : Cursor) → n ≡ suc k → IsLeft goes rule start first n rest x → true ≡ goes rest.bytes.now rest.rest.now → Takes rest (Ok y) after (rule x) → IsLeft goes rule start first k after y

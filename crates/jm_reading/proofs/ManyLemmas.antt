@@ -2,7 +2,7 @@
 use Rattle.std.proofs.Common.{◌≡◌, ℕ, zero, suc, ◌<◌, ◌≤◌, Bool, true, false, List, [], ◌∷◌, ◌++◌, length, Some, None, refl, sym, ap, subst, ◌∙◌, inl, inr, arith, append_assoc, append-nil, length-append}
 use Rattle.jm_text.specs.declared.token.Token.{Token}
 use Rattle.jm_reading.specs.Reading.{mark_at, at_most}
-use Rattle.jm_reading.specs.Taking.{Rule, gathered_at, with_item, many_at, more_at, parted_at}
+use Rattle.jm_reading.specs.Taking.{Rule, folded_at, with_item, many_at, more_at, parted_at}
 use Rattle.jm_reading.specs.Tokens.{IsMark, SpellsEach, SpellsMore, SpellsParted}
 use Rattle.jm_reading.proofs.TokenLemmas.{mark_is, mark_read, step_of, one_of}
 use Rattle.jm_reading.proofs.LoopLemmas.{items_stop, items_go}
@@ -58,7 +58,7 @@ module _ {X : Type 0} (goes : List ℕ → List Token → Bool) (rule : Rule X) 
   ]
 
   pub many_sound : IsSoundRule → (xs ys : List X) (tokens behind : List Token) → many_at goes rule xs bytes tokens ≡ Some (ys, behind) → Spelled xs ys tokens behind
-  unfolding gathered_at
+  unfolding folded_at
   many_sound sound xs ys tokens behind h = each_read sound (length tokens) xs ys tokens behind h
 
   -- the tokens that spell an item are taken, where what follows begins as it must
@@ -89,7 +89,7 @@ module _ {X : Type 0} (goes : List ℕ → List Token → Bool) (rule : Rule X) 
         ∙ ap (λ (l : List X). Some (l, behind)) (append_assoc ys (x ∷ []) xs))
 
     pub many_complete : (ys : List X) (inner behind : List Token) (xs : List X) → SpellsEach SpellsOne inner xs → Follows behind → goes bytes behind ≡ false → many_at goes rule ys bytes (inner ++ behind) ≡ Some (ys ++ xs, behind)
-    unfolding gathered_at
+    unfolding folded_at
     many_complete ys inner behind xs h f end = read_each (length (inner ++ behind)) ys inner behind xs h f end (omega arith)
 
 -- ---- the same of items with a mark between each two

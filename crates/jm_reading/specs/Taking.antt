@@ -27,8 +27,8 @@ pub record TakesOne {X : Type 0} (old : Cursor) (result : Result X SpecError) (n
   pub left : OnOk result (length new.rest.now < length old.rest.now)
 
 -- a rule one time after the other, as long as the tokens go on so: each adds to what was read before, at first this
-unfoldable pub gathered_at : {X : Type 0} → (Text → List Token → Bool) → (X → Rule X) → X → Rule X
-gathered_at goes_on rule first bytes tokens =
+unfoldable pub folded_at : {X : Type 0} → (Text → List Token → Bool) → (X → Rule X) → X → Rule X
+folded_at goes_on rule first bytes tokens =
     at_most (goes_on bytes) (λ x. rule x bytes) (length tokens) first tokens
 
 -- an item more, after those that were read before
@@ -37,7 +37,7 @@ with_item rule xs bytes tokens = rule bytes tokens >>= λ x. Some (xs ++ x.0 ∷
 
 -- the items of a rule one after the other, after these, as long as the tokens go on so
 abbrev pub many_at : {X : Type 0} → (Text → List Token → Bool) → Rule X → List X → Rule (List X)
-many_at goes_on rule xs = gathered_at goes_on (with_item rule) xs
+many_at goes_on rule xs = folded_at goes_on (with_item rule) xs
 
 -- items with a mark between each two, at least one item, as long as the tokens go on so: One { mark One }
 module _ {X : Type 0} (mark : Text) (one : Rule X) where

@@ -20,7 +20,7 @@ use Rattle.jm_spec.specs.declared.frame.Frame.{Frame}
 use Rattle.jm_spec.specs.Brackets.{sign_of, after_sign, without_angles}
 use Rattle.jm_spec.specs.Runs.{may_end, parts, clause_length, parameter_length, begins_property, formula_length}
 use Rattle.jm_reading.specs.Reading.{◌>>=◌, is_mark_at, is_word_at, is_name_at, mark_at, name_at}
-use Rattle.jm_reading.specs.Taking.{gathered_at}
+use Rattle.jm_reading.specs.Taking.{folded_at}
 use Rattle.jm_spec.specs.Reading.{place, any_word_at, passed}
 use Rattle.jm_spec.specs.Rules.{begins_clause, clause_at, clauses_at, more_word_at, begins_more_word, more_words_at, modifier_of, modifier_at, begins_modifier, modifiers_at, named_at, param_at, more_param_at, begins_more_param, more_params_at, params_at, list_at, run_at, pointcut_at, before_at, optional_list_at, outcome_at, after_at, other_at, advice_at, creation_at, begins_event, event_at, member_at, begins_member, members_at, block_at, handler_at, begins_handler, handlers_at, property_at, goes_on, properties_at, frame_at, frame_of}
 use Rattle.jm_spec.specs.Balance.{member_sign, open_after}
@@ -58,7 +58,7 @@ clause_read bytes front behind (clause word run semicolon begins none ends) u =
     (b.0, passed_complete (word ∷ run ++ semicolon ∷ []) behind _ (clause_goes_on bytes word ((run ++ semicolon ∷ []) ++ behind) _ (no_mark bytes word (codes ";") b.1) tail), tt)
 
 clauses_read : (bytes : List ℕ) (front behind : List Token) → Repeats (SpellsClause bytes) front → begins_clause bytes behind ≡ false → clauses_at bytes (front ++ behind) ≡ Some (tt, behind)
-unfolding gathered_at
+unfolding folded_at
 clauses_read bytes front behind r stop =
     (steps_complete (SpellsClause bytes) (begins_clause bytes) (clause_at bytes) (λ _. Unit {0}) (clause_filled bytes) (clause_read bytes) (length (front ++ behind)) tt front behind r tt stop (omega arith)).0
 
@@ -81,7 +81,7 @@ word_is_no_dash bytes [] b = absurd b
 word_is_no_dash bytes (t ∷ ts) b = no_mark bytes t (codes "-") b
 
 more_words_read : (bytes : List ℕ) (front behind : List Token) → Repeats (SpellsMoreWord bytes) front → BeginsWord behind → more_words_at bytes (front ++ behind) ≡ Some (tt, behind)
-unfolding gathered_at
+unfolding folded_at
 more_words_read bytes front behind r b =
     (steps_complete (SpellsMoreWord bytes) (begins_more_word bytes) (more_word_at bytes) (λ _. Unit {0}) (more_word_filled bytes) (more_word_read bytes) (length (front ++ behind)) tt front behind r tt (word_is_no_dash bytes behind b) (omega arith)).0
 
@@ -113,7 +113,7 @@ modifier_read bytes front xs had behind (modifier word more w r) b = (
 )
 
 modifiers_read : (bytes : List ℕ) (front : List Token) (xs : List Modifier) (behind : List Token) → SpelledAnywhere (SpellsModifier bytes) front xs → BeginsWord behind → begins_modifier bytes behind ≡ false → (modifiers_at bytes (front ++ behind) ≡ Some (xs, behind)) × BeginsWord (front ++ behind)
-unfolding gathered_at
+unfolding folded_at
 modifiers_read bytes front xs behind r b stop =
     items_complete (length (front ++ behind)) (λ _. SpellsModifier bytes) (begins_modifier bytes) (λ x. modifier_at x bytes) BeginsWord (modifier_filled bytes) (λ at ts ys zs us x p _. modifier_read bytes ts ys zs us x p) (length (front ++ behind)) 0 front xs [] behind r b stop (omega arith) (omega arith)
 
@@ -210,7 +210,7 @@ more_param_read bytes front xs had behind (more_param comma run names c p) b =
     (c, both_give (mark_at bytes (codes ",") (comma ∷ run ++ behind)) (param_at had bytes) (run ++ behind) _ (mark_is bytes (codes ",") comma (run ++ behind) c) (param_read bytes had run names behind p b), comma_parts bytes comma c)
 
 more_params_read : (bytes : List ℕ) (had front xs behind : List Token) → SpelledAnywhere (SpellsMoreParam bytes) front xs → BeginsPart bytes behind → begins_more_param bytes behind ≡ false → (more_params_at had bytes (front ++ behind) ≡ Some (had ++ xs, behind)) × BeginsPart bytes (front ++ behind)
-unfolding gathered_at
+unfolding folded_at
 more_params_read bytes had front xs behind r b stop =
     items_complete (length (front ++ behind)) (λ _. SpellsMoreParam bytes) (begins_more_param bytes) (λ x. more_param_at x bytes) (BeginsPart bytes) (more_param_filled bytes) (λ at ts ys zs us x p _. more_param_read bytes ts ys zs us x p) (length (front ++ behind)) 0 front xs had behind r b stop (omega arith) (omega arith)
 
@@ -433,7 +433,7 @@ member_read bytes front xs had rest (an_event tokens e s) u =
     (b.1, ap (λ g. cond {A = Option (List Mention × List Token)} g (event_at had bytes (tokens ++ rest)) (run_at bytes (tokens ++ rest) >>= λ behind. Some (had, behind))) b.0 ∙ event_read bytes had tokens e rest s, tt)
 
 members_read : (bytes : List ℕ) (front : List Token) (xs : List Mention) (rest : List Token) → SpelledAnywhere (SpellsMember bytes) front xs → begins_member bytes rest ≡ false → members_at bytes (front ++ rest) ≡ Some (xs, rest)
-unfolding gathered_at
+unfolding folded_at
 members_read bytes front xs rest r stop =
     (items_complete (length (front ++ rest)) (λ _. SpellsMember bytes) (begins_member bytes) (λ x. member_at x bytes) (λ _. Unit {0}) (member_filled bytes) (λ at ts ys zs us x p _. member_read bytes ts ys zs us x p) (length (front ++ rest)) 0 front xs [] rest r tt stop (omega arith) (omega arith)).0
 
@@ -477,7 +477,7 @@ handler_read bytes total at front xs had rest (handler sign category opening ins
     )
 
 handlers_read : (bytes : List ℕ) (total at : ℕ) (front : List Token) (xs : List HandlerText) (rest : List Token) → Spelled (SpellsHandler bytes) at front xs → StopsFormula bytes rest → begins_handler bytes rest ≡ false → at + length (front ++ rest) ≡ total → (handlers_at total bytes (front ++ rest) ≡ Some (xs, rest)) × StopsFormula bytes (front ++ rest)
-unfolding gathered_at
+unfolding folded_at
 handlers_read bytes total at front xs rest r p stop same =
     items_complete total (SpellsHandler bytes) (begins_handler bytes) (λ x. handler_at total x bytes) (StopsFormula bytes) (handler_filled bytes) (handler_read bytes total) (length (front ++ rest)) at front xs [] rest r p stop same (omega arith)
 
@@ -545,7 +545,7 @@ property_read bytes total at front xs had rest (property logic colon formula han
     )
 
 properties_read : (bytes : List ℕ) (total at : ℕ) (front : List Token) (xs : List Property) (closing : Token) → Spelled (SpellsProperty bytes) at front xs → IsMark bytes (codes "}") closing → at + length (front ++ closing ∷ []) ≡ total → (properties_at total bytes (front ++ closing ∷ []) ≡ Some (xs, closing ∷ [])) × StopsProperty bytes (front ++ closing ∷ [])
-unfolding gathered_at
+unfolding folded_at
 properties_read bytes total at front xs closing r c same =
     items_complete total (SpellsProperty bytes) (goes_on bytes) (λ x. property_at total x bytes) (StopsProperty bytes) (property_filled bytes) (property_read bytes total) (length (front ++ closing ∷ [])) at front xs [] (closing ∷ []) r (closing_stops bytes closing [] c) (ap (λ g. not g) c) same (omega arith)
 

@@ -17,7 +17,7 @@ use Rattle.jm_spec.specs.declared.property.Property.{Property}
 use Rattle.jm_spec.specs.declared.frame.Frame.{Frame}
 use Rattle.jm_spec.specs.Runs.{clause_length, member_length, parameter_length, begins_property, formula_length}
 use Rattle.jm_reading.specs.Reading.{◌>>=◌, is_mark_at, is_word_at, is_name_at, mark_at, name_at}
-use Rattle.jm_reading.specs.Taking.{gathered_at}
+use Rattle.jm_reading.specs.Taking.{folded_at}
 use Rattle.jm_spec.specs.Reading.{place, any_word_at, passed}
 use Rattle.jm_spec.specs.Rules.{begins_clause, clause_at, clauses_at, more_word_at, begins_more_word, more_words_at, modifier_of, modifier_at, begins_modifier, modifiers_at, named_at, param_at, more_param_at, begins_more_param, more_params_at, params_at, list_at, run_at, pointcut_at, before_at, optional_list_at, outcome_at, after_at, other_at, advice_at, creation_at, begins_event, event_at, member_at, begins_member, members_at, block_at, handler_at, begins_handler, handlers_at, property_at, goes_on, properties_at, at_end, frame_at, frame_of}
 use Rattle.jm_spec.specs.Balance.{open_after}
@@ -60,7 +60,7 @@ clause_is bytes (t ∷ ts) rest begins h =
     record { front = t ∷ c.run ++ c.semicolon ∷ []; split = p.2 ∙ ap (λ xs. xs ++ rest) whole; said = clause t c.run c.semicolon b c.none c.ends }
 
 clauses_are : (bytes : List ℕ) (tokens rest : List Token) (u : Unit {0}) → clauses_at bytes tokens ≡ Some (u, rest) → Fronts (Repeats (SpellsClause bytes)) tokens rest × (begins_clause bytes rest ≡ false)
-unfolding gathered_at
+unfolding folded_at
 clauses_are bytes tokens rest u h = steps_sound (SpellsClause bytes) (begins_clause bytes) (clause_at bytes) (λ ts r. clause_is bytes ts r) (length tokens) tokens rest tt u h
 
 -- the modifiers
@@ -73,7 +73,7 @@ more_word_is bytes tokens rest h =
     record { front = m.token ∷ w.0 ∷ []; split = m.cut ∙ ap (λ r. m.token ∷ r) w.1; said = more_word m.token w.0 m.is w.2 }
 
 more_words_are : (bytes : List ℕ) (tokens rest : List Token) (u : Unit {0}) → more_words_at bytes tokens ≡ Some (u, rest) → Fronts (Repeats (SpellsMoreWord bytes)) tokens rest
-unfolding gathered_at
+unfolding folded_at
 more_words_are bytes tokens rest u h = (steps_sound (SpellsMoreWord bytes) (begins_more_word bytes) (more_word_at bytes) (λ ts r _. more_word_is bytes ts r) (length tokens) tokens rest tt u h).0
 
 regrouped : (a b c d rest : List Token) → (a ++ b ++ c ++ d) ++ rest ≡ a ++ (b ++ (c ++ (d ++ rest)))
@@ -102,7 +102,7 @@ modifier_is bytes ms tokens out rest h =
     }
 
 modifiers_are : (bytes : List ℕ) (tokens : List Token) (out : List Modifier) (rest : List Token) → modifiers_at bytes tokens ≡ Some (out, rest) → Adds (SpelledAnywhere (SpellsModifier bytes)) tokens [] out rest
-unfolding gathered_at
+unfolding folded_at
 modifiers_are bytes tokens out rest h =
     (items_sound (length tokens) (λ _. SpellsModifier bytes) (begins_modifier bytes) (λ x. modifier_at x bytes) (λ at xs ts ys r _ _. modifier_is bytes xs ts ys r) (length tokens) 0 [] tokens out rest (omega arith) h).0
 
@@ -188,7 +188,7 @@ more_param_is bytes names tokens out rest h =
     record { front = m.token ∷ r.front; values = r.values; split = m.cut ∙ ap (λ xs. m.token ∷ xs) r.split; all = r.all; said = more_param m.token r.front r.values m.is r.said }
 
 more_params_are : (bytes : List ℕ) (names tokens out rest : List Token) → more_params_at names bytes tokens ≡ Some (out, rest) → Adds (SpelledAnywhere (SpellsMoreParam bytes)) tokens names out rest
-unfolding gathered_at
+unfolding folded_at
 more_params_are bytes names tokens out rest h =
     (items_sound (length tokens) (λ _. SpellsMoreParam bytes) (begins_more_param bytes) (λ x. more_param_at x bytes) (λ at xs ts ys r _ _. more_param_is bytes xs ts ys r) (length tokens) 0 names tokens out rest (omega arith) h).0
 
@@ -452,7 +452,7 @@ member_is bytes events tokens out rest begins h = given (begins_event bytes toke
         }
 
 members_are : (bytes : List ℕ) (tokens : List Token) (out : List Mention) (rest : List Token) → members_at bytes tokens ≡ Some (out, rest) → Adds (SpelledAnywhere (SpellsMember bytes)) tokens [] out rest
-unfolding gathered_at
+unfolding folded_at
 members_are bytes tokens out rest h =
     (items_sound (length tokens) (λ _. SpellsMember bytes) (begins_member bytes) (λ x. member_at x bytes) (λ at xs ts ys r _ begins. member_is bytes xs ts ys r begins) (length tokens) 0 [] tokens out rest (omega arith) h).0
 
@@ -522,7 +522,7 @@ handler_is bytes total at handlers tokens out rest same h =
     }
 
 handlers_are : (bytes : List ℕ) (total at : ℕ) (tokens : List Token) (out : List HandlerText) (rest : List Token) → at + length tokens ≡ total → handlers_at total bytes tokens ≡ Some (out, rest) → Adds (Spelled (SpellsHandler bytes) at) tokens [] out rest
-unfolding gathered_at
+unfolding folded_at
 handlers_are bytes total at tokens out rest same h =
     (items_sound total (SpellsHandler bytes) (begins_handler bytes) (λ x. handler_at total x bytes) (λ there xs ts ys r s _. handler_is bytes total there xs ts ys r s) (length tokens) at [] tokens out rest same h).0
 
@@ -554,7 +554,7 @@ property_is bytes total at properties tokens out rest same h =
     }
 
 properties_are : (bytes : List ℕ) (total at : ℕ) (tokens : List Token) (out : List Property) (rest : List Token) → at + length tokens ≡ total → properties_at total bytes tokens ≡ Some (out, rest) → Adds (Spelled (SpellsProperty bytes) at) tokens [] out rest
-unfolding gathered_at
+unfolding folded_at
 properties_are bytes total at tokens out rest same h =
     (items_sound total (SpellsProperty bytes) (goes_on bytes) (λ x. property_at total x bytes) (λ there xs ts ys r s _. property_is bytes total there xs ts ys r s) (length tokens) at [] tokens out rest same h).0
 

@@ -13,7 +13,7 @@ use Rattle.jm_spec.specs.declared.property.Property.{Property}
 use Rattle.jm_spec.specs.declared.frame.Frame.{Frame}
 use Rattle.jm_spec.specs.Runs.{clause_length, member_length, parameter_length, formula_length, begins_property}
 use Rattle.jm_reading.specs.Reading.{◌>>=◌, is_mark_at, is_word_at, is_name_at, line_of, mark_at, name_at}
-use Rattle.jm_reading.specs.Taking.{Rule, gathered_at}
+use Rattle.jm_reading.specs.Taking.{Rule, folded_at}
 use Rattle.jm_spec.specs.Reading.{place, any_word_at, passed, unkept}
 
 -- ( "package" | "import" ) Run ";"
@@ -24,7 +24,7 @@ unfoldable pub clause_at : Text → List Token → Option (List Token)
 clause_at bytes tokens = passed tokens (clause_length bytes tokens)
 
 abbrev pub clauses_at : Rule (Unit {0})
-clauses_at = gathered_at begins_clause (unkept clause_at) tt
+clauses_at = folded_at begins_clause (unkept clause_at) tt
 
 -- Modifier = Word { "-" Word }
 unfoldable pub more_word_at : Text → List Token → Option (List Token)
@@ -34,7 +34,7 @@ abbrev pub begins_more_word : Text → List Token → Bool
 begins_more_word bytes tokens = is_mark_at bytes tokens 0 (codes "-")
 
 abbrev pub more_words_at : Rule (Unit {0})
-more_words_at = gathered_at begins_more_word (unkept more_word_at) tt
+more_words_at = folded_at begins_more_word (unkept more_word_at) tt
 
 -- the modifier that these tokens spell
 abbrev pub modifier_of : Text → List Token → Modifier
@@ -57,7 +57,7 @@ abbrev pub begins_modifier : Text → List Token → Bool
 begins_modifier bytes tokens = not (is_mark_at bytes tokens 1 (codes "("))
 
 abbrev pub modifiers_at : Rule (List Modifier)
-modifiers_at = gathered_at begins_modifier modifier_at []
+modifiers_at = folded_at begins_modifier modifier_at []
 
 -- Param = Type NAME, where the type isn't empty
 abbrev pub named_at : List Token → Text → List Token → ℕ → Option (List Token × List Token)
@@ -75,7 +75,7 @@ abbrev pub begins_more_param : Text → List Token → Bool
 begins_more_param bytes tokens = is_mark_at bytes tokens 0 (codes ",")
 
 abbrev pub more_params_at : List Token → Rule (List Token)
-more_params_at = gathered_at begins_more_param more_param_at
+more_params_at = folded_at begins_more_param more_param_at
 
 -- [ Param { "," Param } ], before a `)`
 unfoldable pub params_at : List Token → Rule (List Token)
@@ -171,7 +171,7 @@ abbrev pub begins_member : Text → List Token → Bool
 begins_member bytes tokens = not (is_mark_at bytes tokens 0 (codes "}") || begins_property bytes tokens)
 
 abbrev pub members_at : Rule (List Mention)
-members_at = gathered_at begins_member member_at []
+members_at = folded_at begins_member member_at []
 
 abbrev pub begins_handler : Text → List Token → Bool
 begins_handler bytes tokens = is_mark_at bytes tokens 0 (codes "@")
@@ -197,7 +197,7 @@ module _ (total : ℕ) where
     Some (handlers ++ record { category = category.0; first = inside.0.0; last = inside.0.1 } ∷ [], inside.1)
 
   abbrev pub handlers_at : Rule (List HandlerText)
-  handlers_at = gathered_at begins_handler handler_at []
+  handlers_at = folded_at begins_handler handler_at []
 
   -- Property = NAME ":" Formula, and its handlers
   unfoldable pub property_at : List Property → Rule (List Property)
@@ -217,7 +217,7 @@ module _ (total : ℕ) where
     )
 
   abbrev pub properties_at : Rule (List Property)
-  properties_at = gathered_at goes_on property_at []
+  properties_at = folded_at goes_on property_at []
 
 -- nothing stands after
 abbrev pub at_end : {X : Type 0} → X → List Token → Option X

@@ -8,7 +8,7 @@ use crate::head::list;
 use crate::reader::any_word;
 use crate::runs;
 use jm_model::SpecError;
-use jm_reading::{Cursor, Gathered, Items};
+use jm_reading::{Cursor, Items, Repeat};
 use jm_text::{Token, is_mark};
 
 /// What an event is advised by.
@@ -31,10 +31,10 @@ pub struct Mention {
 /// An event, which is kept, or a declaration, up to the first property or the end of the body
 pub struct Member;
 
-impl Gathered for Member {
-    type Whole = Items<Mention>;
+impl Repeat for Member {
+    type Accumulator = Items<Mention>;
 
-    ghost goes_on = { begins_member };
+    ghost continues = { begins_member };
 
     ghost more = { λ rule. member_at };
 

@@ -6,7 +6,7 @@ use crate::events::{Member, Mention};
 use crate::head::{Clause, Modifier, OneModifier, list};
 use crate::property::{OneProperty, Property};
 use jm_model::SpecError;
-use jm_reading::{Cursor, Items, gather};
+use jm_reading::{Cursor, Items, fold_many};
 use jm_text::Token;
 
 /// What the tokens of a file say.
@@ -24,13 +24,13 @@ pub struct Frame {
 pub fn file(total: u32, cursor: &mut Cursor<'_>) -> Result<Frame, SpecError>
     ensures { Gives result (frame_at total cursor.old.bytes.now cursor.old.rest.now) }
 {
-    gather(&Clause, (), cursor)?;
-    let modifiers = gather(&OneModifier, Items::new(cursor.alloc), cursor)?;
+    fold_many(&Clause, (), cursor)?;
+    let modifiers = fold_many(&OneModifier, Items::new(cursor.alloc), cursor)?;
     let name = cursor.name()?;
     let params = list(Items::new(cursor.alloc), cursor)?;
     cursor.mark(b"{")?;
-    let events = gather(&Member, Items::new(cursor.alloc), cursor)?;
-    let properties = gather(&OneProperty { total }, Items::new(cursor.alloc), cursor)?;
+    let events = fold_many(&Member, Items::new(cursor.alloc), cursor)?;
+    let properties = fold_many(&OneProperty { total }, Items::new(cursor.alloc), cursor)?;
     cursor.mark(b"}")?;
     if cursor.is_left() {
         return Err(cursor.syntax());

@@ -9,7 +9,7 @@ ghost use Rattle.jm_spec.specs.Rules.{begins_clause, clause_at, begins_more_word
 use crate::reader::any_word;
 use crate::runs;
 use jm_model::SpecError;
-use jm_reading::{Cursor, Gathered, Items, gather};
+use jm_reading::{Cursor, Items, Repeat, fold_many};
 use jm_text::{Token, is_word};
 
 /// A modifier of a specification.
@@ -28,10 +28,10 @@ pub enum Modifier {
 /// ( "package" | "import" ) Run ";"
 pub struct Clause;
 
-impl Gathered for Clause {
-    type Whole = ();
+impl Repeat for Clause {
+    type Accumulator = ();
 
-    ghost goes_on = { begins_clause };
+    ghost continues = { begins_clause };
 
     ghost more = { λ rule. unkept clause_at };
 
@@ -50,10 +50,10 @@ impl Gathered for Clause {
 /// "-" Word
 struct MoreWord;
 
-impl Gathered for MoreWord {
-    type Whole = ();
+impl Repeat for MoreWord {
+    type Accumulator = ();
 
-    ghost goes_on = { begins_more_word };
+    ghost continues = { begins_more_word };
 
     ghost more = { λ rule. unkept more_word_at };
 
@@ -72,10 +72,10 @@ impl Gathered for MoreWord {
 /// Word { "-" Word }, up to a name and its list
 pub struct OneModifier;
 
-impl Gathered for OneModifier {
-    type Whole = Items<Modifier>;
+impl Repeat for OneModifier {
+    type Accumulator = Items<Modifier>;
 
-    ghost goes_on = { begins_modifier };
+    ghost continues = { begins_modifier };
 
     ghost more = { λ rule. modifier_at };
 
@@ -92,7 +92,7 @@ impl Gathered for OneModifier {
         let mut modifiers = whole;
         let tokens = cursor.rest;
         any_word(cursor)?;
-        gather(&MoreWord, (), cursor)?;
+        fold_many(&MoreWord, (), cursor)?;
         let n = tokens.len().saturating_sub(cursor.rest.len());
         modifiers.push(modifier_of(cursor.bytes, &tokens[..n]))?;
         Ok(modifiers)
@@ -161,10 +161,10 @@ fn param(names: Items<Token>, cursor: &mut Cursor<'_>) -> Result<Items<Token>, S
 /// "," Param
 struct MoreParam;
 
-impl Gathered for MoreParam {
-    type Whole = Items<Token>;
+impl Repeat for MoreParam {
+    type Accumulator = Items<Token>;
 
-    ghost goes_on = { begins_more_param };
+    ghost continues = { begins_more_param };
 
     ghost more = { λ rule. more_param_at };
 
@@ -188,7 +188,7 @@ fn params(names: Items<Token>, cursor: &mut Cursor<'_>) -> Result<Items<Token>, 
         return Ok(names);
     }
     let first = param(names, cursor)?;
-    gather(&MoreParam, first, cursor)
+    fold_many(&MoreParam, first, cursor)
 }
 
 /// Parameters in round brackets, with commas between them. Their names are added to these.

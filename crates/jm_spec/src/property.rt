@@ -6,7 +6,7 @@ use crate::events::run;
 use crate::reader::place;
 use crate::runs;
 use jm_model::SpecError;
-use jm_reading::{Cursor, Gathered, Items, gather};
+use jm_reading::{Cursor, Items, Repeat, fold_many};
 use jm_text::Token;
 
 /// A handler: its category, and the range of the tokens inside its block.
@@ -32,10 +32,10 @@ pub struct OneProperty {
     pub total: u32,
 }
 
-impl Gathered for OneProperty {
-    type Whole = Items<Property>;
+impl Repeat for OneProperty {
+    type Accumulator = Items<Property>;
 
-    ghost goes_on = { goes_on };
+    ghost continues = { goes_on };
 
     ghost more = { λ rule. property_at rule.total };
 
@@ -57,7 +57,7 @@ impl Gathered for OneProperty {
         cursor.advance(n);
         let last = place(self.total, cursor);
         let rule = Handler { total: self.total };
-        let handlers = gather(&rule, Items::new(cursor.alloc), cursor)?;
+        let handlers = fold_many(&rule, Items::new(cursor.alloc), cursor)?;
         properties.push(Property {
             logic,
             first,
@@ -74,10 +74,10 @@ struct Handler {
     total: u32,
 }
 
-impl Gathered for Handler {
-    type Whole = Items<HandlerText>;
+impl Repeat for Handler {
+    type Accumulator = Items<HandlerText>;
 
-    ghost goes_on = { begins_handler };
+    ghost continues = { begins_handler };
 
     ghost more = { λ rule. handler_at rule.total };
 

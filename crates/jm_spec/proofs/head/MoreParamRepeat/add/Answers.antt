@@ -3,7 +3,7 @@ use Rattle.std.proofs.lemmas.Result.{err_from_is_err_and}
 use Rattle.jm_reading.specs.Reading.{mark_at}
 use Rattle.jm_spec.specs.Rules.{more_param_at, param_at}
 use Rattle.jm_spec.proofs.TakeLemmas.{fails_first, takes_same}
-use Rattle.jm_spec.proofs.head.MoreParamGathered.add.Goals as goal
+use Rattle.jm_spec.proofs.head.MoreParamRepeat.add.Goals as goal
 
 pub returns-in_err-mark : goal.returns-in_err-mark
 unfolding more_param_at

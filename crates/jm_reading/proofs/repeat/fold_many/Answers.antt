@@ -1,7 +1,7 @@
 use Rattle.std.proofs.Common.{rules, arith}
 use Rattle.std.proofs.lemmas.Result.{err_from_is_err_and}
 use Rattle.jm_reading.proofs.LoopLemmas.{one_gathered, all_gathered, none_gathered, too_many}
-use Rattle.jm_reading.proofs.gathered.gather.Goals as goal
+use Rattle.jm_reading.proofs.repeat.fold_many.Goals as goal
 
 pub returns-then-not-is_next : goal.returns-then-not-is_next
 returns-then-not-is_next g c = all_gathered _ _ c.args.cursor.now c.args.whole c.loop.cursor c.loop.whole _ c.loop.invariant (search rules)

@@ -1,6 +1,0 @@
-use Rattle.std.proofs.Common.{◌-◌}
-use Rattle.jm_reading.proofs.LoopLemmas.{IsLeft}
-use Rattle.jm_reading.proofs.gathered.gather.Given as goal
-
-abbrev pub invariant-loop : goal.invariant-loop
-invariant-loop g l = IsLeft g.R.Gathered.goes_on (g.R.Gathered.more l.rule) l.initial.cursor l.initial.whole (l.end - l.counter) l.cursor l.whole
