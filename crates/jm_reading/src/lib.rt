@@ -14,7 +14,6 @@ mod names;
 mod nesting;
 mod ranges;
 mod repeat;
-mod repeat;
 
 pub use cursor::Cursor;
 pub use events::{GrammarWords, check_event_names, letter_of};
