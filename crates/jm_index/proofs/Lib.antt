@@ -2,7 +2,7 @@ pub mod ReadLemmas
 pub mod BindingLemmas
 pub mod KeyLemmas
 pub mod PositionLemmas
-pub mod FormLemmas
+pub mod PackedEntryLemmas
 pub mod EntryLemmas
 pub mod FlagLemmas
 pub mod PostingLemmas

@@ -9,11 +9,11 @@ use Rattle.std.proofs.lemmas.List.{get_or_past}
 use Rattle.jm_model.specs.Bindings.{objects_of, mask_of}
 use Rattle.jm_model.specs.Layout.{binding_eq}
 use Rattle.jm_model.proofs.EqLemmas.{binding_eq-Decides}
-use Rattle.jm_index.specs.declared.key.Couple.{Couple}
+use Rattle.jm_index.specs.declared.key.ParamPair.{ParamPair}
 use Rattle.jm_index.specs.declared.key.Key.{Key}
 use Rattle.jm_index.specs.declared.key.Key.TheVariants.{Empty, One, Two, More}
 use Rattle.jm_index.specs.declared.positions.Positions.{Positions}
-use Rattle.jm_index.specs.Keys.{key_by, key_of, couple_eq, tag_at, position_in}
+use Rattle.jm_index.specs.Keys.{key_by, key_of, param_pair_eq, position_plus_one_at, position_in}
 use Rattle.jm_index.specs.Positions.{at_key, position_of, IsPut, IsSameAt, IsSame, IsUpdated}
 
 abbrev Bound : Type 0
@@ -53,10 +53,10 @@ same_parts m n (o ∷ []) (p ∷ q ∷ r ∷ ps) e exact = cc
 same_parts m n (o ∷ u ∷ []) [] e exact = cc
 same_parts m n (o ∷ u ∷ []) (p ∷ []) e exact = cc
 same_parts m n (o ∷ u ∷ []) (p ∷ q ∷ []) e exact =
-    let both : ◌≡◌ {A = Couple} (record { mask = m; first = o; second = u }) (record { mask = n; first = p; second = q }) = cc in
-    let first : o ≡ p = ap (λ (c : Couple). c.first) both in
-    let second : u ≡ q = ap (λ (c : Couple). c.second) both in
-    (rw (first, second) refl, inr (ap (λ (c : Couple). c.mask) both))
+    let both : ◌≡◌ {A = ParamPair} (record { mask = m; first = o; second = u }) (record { mask = n; first = p; second = q }) = cc in
+    let first : o ≡ p = ap (λ (c : ParamPair). c.first) both in
+    let second : u ≡ q = ap (λ (c : ParamPair). c.second) both in
+    (rw (first, second) refl, inr (ap (λ (c : ParamPair). c.mask) both))
 same_parts m n (o ∷ u ∷ []) (p ∷ q ∷ r ∷ ps) e exact = cc
 same_parts m n (o ∷ u ∷ w ∷ os) ps e exact = absurd (exact refl)
 
@@ -74,33 +74,33 @@ more_or_not (One m o) = inr (λ e. cc)
 more_or_not (Two c) = inr (λ e. cc)
 more_or_not More = inl refl
 
--- ---- couples
-same_couple : (m n o p u q : ℕ) → m ≡ n → o ≡ p → u ≡ q → ◌≡◌ {A = Couple} (record { mask = m; first = o; second = u }) (record { mask = n; first = p; second = q })
-same_couple m n o p u q mask first second = rw (mask, first, second) refl
+-- ---- pairs of parameters
+same_param_pair : (m n o p u q : ℕ) → m ≡ n → o ≡ p → u ≡ q → ◌≡◌ {A = ParamPair} (record { mask = m; first = o; second = u }) (record { mask = n; first = p; second = q })
+same_param_pair m n o p u q mask first second = rw (mask, first, second) refl
 
-couple_eq-true : (a b : Couple) → couple_eq a b ≡ true → a ≡ b
-couple_eq-true a b e =
+param_pair_eq-true : (a b : ParamPair) → param_pair_eq a b ≡ true → a ≡ b
+param_pair_eq-true a b e =
     let parts = and_parts _ _ e in
     let rest = and_parts _ _ parts.1 in
-    same_couple _ _ _ _ _ _ (eqb-true _ _ parts.0) (eqb-true _ _ rest.0) (eqb-true _ _ rest.1)
+    same_param_pair _ _ _ _ _ _ (eqb-true _ _ parts.0) (eqb-true _ _ rest.0) (eqb-true _ _ rest.1)
 
-couple_eq-refl : (a : Couple) → couple_eq a a ≡ true
-couple_eq-refl a = rw (eq-eqb a.mask a.mask refl, eq-eqb a.first a.first refl, eq-eqb a.second a.second refl) refl
+param_pair_eq-refl : (a : ParamPair) → param_pair_eq a a ≡ true
+param_pair_eq-refl a = rw (eq-eqb a.mask a.mask refl, eq-eqb a.first a.first refl, eq-eqb a.second a.second refl) refl
 
-pub put_couple : (s t : Positions) (couple : Couple) (w : Option ℕ) → t.empty ≡ s.empty → t.rows ≡ s.rows
-    → ((q : Couple) → get couple_eq t.couples q ≡ cond (couple_eq couple q) w (get couple_eq s.couples q)) → IsPut (Two couple) w s t
-put_couple s t couple w empty rows updated =
+pub put_param_pair : (s t : Positions) (param_pair : ParamPair) (w : Option ℕ) → t.empty ≡ s.empty → t.rows ≡ s.rows
+    → ((q : ParamPair) → get param_pair_eq t.param_pairs q ≡ cond (param_pair_eq param_pair q) w (get param_pair_eq s.param_pairs q)) → IsPut (Two param_pair) w s t
+put_param_pair s t param_pair w empty rows updated =
     record {
-      here = updated couple ∙ rw (couple_eq-refl couple) refl;
+      here = updated param_pair ∙ rw (param_pair_eq-refl param_pair) refl;
       exact = λ e. cc;
       elsewhere = λ other apart. elsewhere other apart;
     }
   where
-    elsewhere : (other : Key) → (other ≡ Two couple → ⊥) → at_key t other ≡ at_key s other
+    elsewhere : (other : Key) → (other ≡ Two param_pair → ⊥) → at_key t other ≡ at_key s other
     elsewhere Empty apart = empty
     elsewhere (One m o) apart = rw rows refl
     elsewhere (Two c) apart =
-        let differs : couple_eq couple c ≡ false = false_from_ne_true _ (λ same. apart (ap (λ (v : Couple). Two v) (sym (couple_eq-true couple c same)))) in
+        let differs : param_pair_eq param_pair c ≡ false = false_from_ne_true _ (λ same. apart (ap (λ (v : ParamPair). Two v) (sym (param_pair_eq-true param_pair c same)))) in
         updated c ∙ rw differs refl
     elsewhere More apart = refl
 
@@ -176,17 +176,17 @@ no_positions : (s : Positions) → ((key : Key) → at_key s key ≡ None) → (
 unfolding position_of
 no_positions s none among b = rw (none (key_of b), among b) (elim (length b == 8) as (λ v. ◌≡◌ {A = Option ℕ} (cond v None None) None) [ true ↦ refl | false ↦ refl ])
 
-no_tag : (m o : ℕ) → tag_at [] m o ≡ 0
-no_tag m o = ap (λ (row : List ℕ). get_or row o 0) (get_or_past {X = List ℕ} [] m [] (omega arith)) ∙ get_or_past {X = ℕ} [] o 0 (omega arith)
+no_position_plus_one : (m o : ℕ) → position_plus_one_at [] m o ≡ 0
+no_position_plus_one m o = ap (λ (row : List ℕ). get_or row o 0) (get_or_past {X = List ℕ} [] m [] (omega arith)) ∙ get_or_past {X = ℕ} [] o 0 (omega arith)
 
 -- where nothing was put
-pub bare : (s : Positions) → s.empty ≡ None → s.rows ≡ [] → s.couples.entries ≡ [] → s.others.entries ≡ [] → (b : Bound) → position_of s b ≡ None
-bare s empty rows couples others = no_positions s none (λ q. ap (λ (es : List (Bound × ℕ)). lookup (binding_eq q) es) others)
+pub bare : (s : Positions) → s.empty ≡ None → s.rows ≡ [] → s.param_pairs.entries ≡ [] → s.others.entries ≡ [] → (b : Bound) → position_of s b ≡ None
+bare s empty rows param_pairs others = no_positions s none (λ q. ap (λ (es : List (Bound × ℕ)). lookup (binding_eq q) es) others)
   where
     none : (key : Key) → at_key s key ≡ None
     none Empty = empty
-    none (One m o) = ap (λ (rs : List (List ℕ)). position_in (tag_at rs m o)) rows ∙ ap position_in (no_tag m o)
-    none (Two c) = ap (λ (es : List (Couple × ℕ)). lookup (couple_eq c) es) couples
+    none (One m o) = ap (λ (rs : List (List ℕ)). position_in (position_plus_one_at rs m o)) rows ∙ ap position_in (no_position_plus_one m o)
+    none (Two c) = ap (λ (es : List (ParamPair × ℕ)). lookup (param_pair_eq c) es) param_pairs
     none More = refl
 
 pub on_err : {T E : Type 0} (r : Result T E) (P : Type 0) → P → OnErr r P

@@ -1,6 +1,6 @@
 pub mod Index
 pub mod Entries
-pub mod Forms
+pub mod PackedEntries
 pub mod Layout
 pub mod Keys
 pub mod Positions

@@ -9,13 +9,13 @@ use Rattle.jm_model.specs.Layout.{binding_eq}
 use Rattle.jm_index.specs.declared.key.Key.{Key}
 use Rattle.jm_index.specs.declared.key.Key.TheVariants.{Empty, One, Two, More}
 use Rattle.jm_index.specs.declared.positions.Positions.{Positions}
-use Rattle.jm_index.specs.Keys.{key_of, couple_eq, tag_at, position_in}
+use Rattle.jm_index.specs.Keys.{key_of, param_pair_eq, position_plus_one_at, position_in}
 
 -- the position under a key
 abbrev pub at_key : Positions → Key → Option ℕ
 at_key s Empty = s.empty
-at_key s (One mask o) = position_in (tag_at s.rows mask o)
-at_key s (Two k) = get couple_eq s.couples k
+at_key s (One mask o) = position_in (position_plus_one_at s.rows mask o)
+at_key s (Two k) = get param_pair_eq s.param_pairs k
 at_key s More = None
 
 -- the position of a binding

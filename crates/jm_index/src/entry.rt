@@ -5,7 +5,7 @@ ghost use Rattle.std.specs.Vec.{vec_capacity};
 ghost use Rattle.jm_index.specs.Index.{Pair};
 ghost use Rattle.jm_index.specs.Layout.{is_live_at, pair_at, slot_of, slot_at};
 
-use crate::form::{Form, binding_in, form_of, is_kept, slot_in};
+use crate::packed_entry::{PackedEntry, binding_in, is_kept, packed_entry_of, slot_in};
 use jm_model::{Binding, NoMemory};
 use std::alloc::Global;
 use std::marker::Model;
@@ -17,7 +17,7 @@ pub struct NoRoom;
 /// A binding and its slot. One that is no longer live counts for nothing.
 #[derive(Drop)]
 pub(crate) struct Entry {
-    form: Form,
+    packed: PackedEntry,
 }
 
 impl Model for Entry {
@@ -25,11 +25,11 @@ impl Model for Entry {
 
     ghost Value = { Kept };
 
-    ghost use Rattle.jm_index.specs.Forms.{kept_of, IsForm};
+    ghost use Rattle.jm_index.specs.PackedEntries.{kept_of, IsPackedEntry};
 
-    ghost view = { λ e. kept_of e.form };
+    ghost view = { λ e. kept_of e.packed };
 
-    ghost invariant = { λ e. IsForm e.form };
+    ghost invariant = { λ e. IsPackedEntry e.packed };
 }
 
 impl Entry {
@@ -37,33 +37,35 @@ impl Entry {
     pub(crate) fn new(alloc: Global, binding: &Binding, slot: usize) -> Result<Entry, NoMemory>
         ensures { IfOk result (λ entry. entry ≡ record { binding = binding.now; slot = slot; live = true }) }
     {
-        let form = form_of(alloc, binding, slot)?;
-        Ok(Entry { form })
+        let packed = packed_entry_of(alloc, binding, slot)?;
+        Ok(Entry { packed })
     }
 
     /// An entry that isn't live.
     pub(crate) fn gone() -> Entry
         ensures { result.live ≡ false }
     {
-        Entry { form: Form::Gone }
+        Entry {
+            packed: PackedEntry::Gone,
+        }
     }
 
     pub(crate) fn is_live(&self) -> bool
         ensures { result ≡ self.now.live }
     {
-        is_kept(&self.form)
+        is_kept(&self.packed)
     }
 
     pub(crate) fn number(&self) -> usize
         ensures { result ≡ self.now.slot }
     {
-        slot_in(&self.form)
+        slot_in(&self.packed)
     }
 
     pub(crate) fn binding(&self) -> Binding
         ensures { result ≡ self.now.binding }
     {
-        binding_in(&self.form)
+        binding_in(&self.packed)
     }
 
     /// The slot, if the entry is live, binds exactly the parameters of `domain` and agrees with `binding`.

@@ -344,7 +344,7 @@ impl Index {
     }
 
     /// Drops an object, where it has a flag.
-    fn let_go(&mut self, object: u32)
+    fn drop_key(&mut self, object: u32)
         requires { IsKeyed self.old }
         ensures list { self.new.list ≡ self.old.list }
         ensures gone { IsKey self.new object → ⊥ }
@@ -360,7 +360,7 @@ impl Index {
     }
 
     /// Drops an object, where it is dead and has a flag.
-    fn let_go_dead(&mut self, objects: &Objects, object: u32)
+    fn drop_dead_key(&mut self, objects: &Objects, object: u32)
         requires { IsKeyed self.old }
         ensures list { self.new.list ≡ self.old.list }
         ensures gone { flag_of objects.now object ≡ true → IsKey self.new object → ⊥ }
@@ -370,7 +370,7 @@ impl Index {
             → (flag_of self.old.dropped o ≡ true) ⊎ (flag_of objects.now o ≡ true) }
     {
         if object < objects.len() && objects.is_dead(object) {
-            self.let_go(object);
+            self.drop_key(object);
         }
     }
 
@@ -444,7 +444,7 @@ impl Index {
         let mut left = self.dropped.news(objects, index);
         while left > 0 {
             let bit = left.trailing_zeros();
-            self.let_go_dead(objects, 64 * index + bit);
+            self.drop_dead_key(objects, 64 * index + bit);
             left &= !(1 << bit);
         }
     }

@@ -6,7 +6,7 @@ use jm_model::Binding;
 
 /// A set of two parameters, and the objects that they are bound to.
 #[derive(Clone, Copy, PartialEq, Eq, Hash)]
-pub(crate) struct Couple {
+pub(crate) struct ParamPair {
     pub(crate) mask: u8,
     pub(crate) first: u32,
     pub(crate) second: u32,
@@ -17,7 +17,7 @@ pub(crate) struct Couple {
 pub(crate) enum Key {
     Empty,
     One(u8, u32),
-    Two(Couple),
+    Two(ParamPair),
     More,
 }
 
@@ -38,7 +38,7 @@ pub(crate) fn key_of(binding: &Binding) -> Key
     };
     match bound_from(binding, second.p + 1) {
         Some(_) => Key::More,
-        None => Key::Two(Couple {
+        None => Key::Two(ParamPair {
             mask,
             first: first.object,
             second: second.object,

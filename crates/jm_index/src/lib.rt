@@ -9,11 +9,11 @@
 
 mod entry;
 mod flags;
-mod form;
 mod growth;
 mod index;
 mod key;
 mod laws;
+mod packed_entry;
 mod positions;
 mod posting;
 mod rows;

@@ -5,7 +5,7 @@ ghost use Rattle.jm_model.specs.declared.binding.Binding.{Binding as Bound};
 ghost use Rattle.jm_model.specs.Layout.{binding_eq};
 ghost use Rattle.jm_index.specs.Keys.{position_in};
 
-use crate::key::{Couple, Key, key_of};
+use crate::key::{Key, ParamPair, key_of};
 use crate::rows::Rows;
 use jm_model::{Binding, NoMemory};
 use std::alloc::Global;
@@ -17,7 +17,7 @@ use std::collections::HashMap;
 pub(crate) struct Positions {
     pub(crate) empty: Option<u32>,
     pub(crate) rows: Rows,
-    pub(crate) couples: HashMap<Couple, u32>,
+    pub(crate) param_pairs: HashMap<ParamPair, u32>,
     pub(crate) others: HashMap<Binding, usize>,
 }
 
@@ -31,7 +31,7 @@ impl Positions {
         Positions {
             empty: None,
             rows: Rows::new(alloc),
-            couples: HashMap::new(alloc),
+            param_pairs: HashMap::new(alloc),
             others: HashMap::new(alloc),
         }
     }
@@ -55,7 +55,7 @@ impl Positions {
         match key {
             Key::Empty => self.empty,
             Key::One(mask, object) => position_in(self.rows.get(mask, object)),
-            Key::Two(couple) => self.couples.get(&couple).copied(),
+            Key::Two(param_pair) => self.param_pairs.get(&param_pair).copied(),
             Key::More => None,
         }
     }
@@ -98,8 +98,8 @@ impl Positions {
         match key {
             Key::Empty => self.empty = Some(short),
             Key::One(mask, object) => self.rows.set(mask, object, short + 1)?,
-            Key::Two(couple) => {
-                self.couples.insert(couple, short)?;
+            Key::Two(param_pair) => {
+                self.param_pairs.insert(param_pair, short)?;
             }
             Key::More => return Ok(false),
         }
@@ -136,7 +136,7 @@ impl Positions {
                 self.rows.clear(mask, object);
                 position
             }
-            Key::Two(couple) => self.couples.remove(&couple),
+            Key::Two(param_pair) => self.param_pairs.remove(&param_pair),
             Key::More => None,
         }
     }
@@ -155,9 +155,9 @@ impl Positions {
     }
 }
 
-/// The position that a tag stands for.
-fn position_in(tag: u32) -> Option<u32>
-    ensures { result ≡ position_in tag }
+/// The position, if there is one, by the number that `Rows` keeps.
+fn position_in(position_plus_one: u32) -> Option<u32>
+    ensures { result ≡ position_in position_plus_one }
 {
-    tag.checked_sub(1)
+    position_plus_one.checked_sub(1)
 }

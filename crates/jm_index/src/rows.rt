@@ -1,16 +1,16 @@
-//! Rows of tags, by a set of one parameter and by object. A tag is one more than a position, or 0 where there is none.
+//! Rows of positions plus one, by a set of one parameter and by object. Where there is no position stands 0.
 ghost use Rattle.std.specs.Prelude.{◌≡◌, ℕ, ◌<◌, [], length, OnOk, OnErr, slice_index, slice_index_or, slice_set};
-ghost use Rattle.jm_index.specs.Keys.{tag_at};
+ghost use Rattle.jm_index.specs.Keys.{position_plus_one_at};
 
 use crate::growth::grow;
 use jm_model::NoMemory;
 use std::alloc::Global;
 use std::marker::Model;
 
-/// The tags of a set of one parameter. An object beyond the last has none.
+/// The positions plus one of the objects of a set of one parameter, or 0. An object beyond the last has no position.
 #[derive(Drop)]
 pub(crate) struct Row {
-    tags: Vec<u32>,
+    positions_plus_one: Vec<u32>,
 }
 
 impl Model for Row {
@@ -18,7 +18,7 @@ impl Model for Row {
 
     ghost Value = { List ℕ };
 
-    ghost view = { λ r. r.tags.items };
+    ghost view = { λ r. r.positions_plus_one.items };
 }
 
 impl Row {
@@ -26,15 +26,15 @@ impl Row {
         ensures { result ≡ [] }
     {
         Row {
-            tags: Vec::new(alloc),
+            positions_plus_one: Vec::new(alloc),
         }
     }
 
     fn get(&self, object: u32) -> u32
         ensures { result ≡ slice_index self.now object }
     {
-        match self.tags.get(object as usize) {
-            Some(tag) => *tag,
+        match self.positions_plus_one.get(object as usize) {
+            Some(position_plus_one) => *position_plus_one,
             None => 0,
         }
     }
@@ -44,23 +44,23 @@ impl Row {
         ensures unchanged { (o : ℕ) → slice_index self.new o ≡ slice_index self.old o }
         ensures in_range { OnOk result (object < length self.new) }
     {
-        let len = self.tags.len();
+        let len = self.positions_plus_one.len();
         let object = object as usize;
         if len <= object {
-            grow(&mut self.tags, object - len + 1)?;
+            grow(&mut self.positions_plus_one, object - len + 1)?;
             for _ in len..=object {
-                self.tags.push_reserved(0);
+                self.positions_plus_one.push_reserved(0);
             }
         }
         Ok(())
     }
 
-    /// Sets the tag of an object, where it has a place.
-    fn set(&mut self, object: u32, tag: u32)
-        ensures { self.new ≡ slice_set self.old object tag }
+    /// Sets the position plus one of an object, where it has a place.
+    fn set(&mut self, object: u32, position_plus_one: u32)
+        ensures { self.new ≡ slice_set self.old object position_plus_one }
     {
-        if (object as usize) < self.tags.len() {
-            self.tags[object as usize] = tag;
+        if (object as usize) < self.positions_plus_one.len() {
+            self.positions_plus_one[object as usize] = position_plus_one;
         }
     }
 }
@@ -88,9 +88,9 @@ impl Rows {
         }
     }
 
-    /// The tag of an object.
+    /// The position plus one of an object, or 0.
     pub(crate) fn get(&self, mask: u8, object: u32) -> u32
-        ensures { result ≡ tag_at self.now mask object }
+        ensures { result ≡ position_plus_one_at self.now mask object }
     {
         match self.rows.get(mask as usize) {
             Some(row) => row.get(object),
@@ -100,7 +100,7 @@ impl Rows {
 
     /// Makes a row, where there is none.
     fn cover(&mut self, mask: u8) -> Result<(), NoMemory>
-        ensures unchanged { (m o : ℕ) → tag_at self.new m o ≡ tag_at self.old m o }
+        ensures unchanged { (m o : ℕ) → position_plus_one_at self.new m o ≡ position_plus_one_at self.old m o }
         ensures in_range { OnOk result (mask < length self.new) }
     {
         let alloc = *self.rows.allocator();
@@ -112,7 +112,7 @@ impl Rows {
 
     /// Makes a place for an object in a row, where there is none.
     fn cover_object(&mut self, mask: u8, object: u32) -> Result<(), NoMemory>
-        ensures unchanged { (m o : ℕ) → tag_at self.new m o ≡ tag_at self.old m o }
+        ensures unchanged { (m o : ℕ) → position_plus_one_at self.new m o ≡ position_plus_one_at self.old m o }
         ensures row { OnOk result (mask < length self.new) }
         ensures in_range { OnOk result (object < length (slice_index_or self.new mask [])) }
     {
@@ -121,22 +121,29 @@ impl Rows {
         row.cover(object)
     }
 
-    /// Sets the tag of an object.
-    pub(crate) fn set(&mut self, mask: u8, object: u32, tag: u32) -> Result<(), NoMemory>
-        ensures at_key { OnOk result (tag_at self.new mask object ≡ tag) }
-        ensures elsewhere { (m o : ℕ) → (m ≡ mask → o ≡ object → ⊥) → tag_at self.new m o ≡ tag_at self.old m o }
-        ensures err { OnErr result ((m o : ℕ) → tag_at self.new m o ≡ tag_at self.old m o) }
+    /// Sets the position plus one of an object.
+    pub(crate) fn set(
+        &mut self,
+        mask: u8,
+        object: u32,
+        position_plus_one: u32,
+    ) -> Result<(), NoMemory>
+        ensures at_key { OnOk result (position_plus_one_at self.new mask object ≡ position_plus_one) }
+        ensures elsewhere { (m o : ℕ) → (m ≡ mask → o ≡ object → ⊥)
+            → position_plus_one_at self.new m o ≡ position_plus_one_at self.old m o }
+        ensures err { OnErr result ((m o : ℕ) → position_plus_one_at self.new m o ≡ position_plus_one_at self.old m o) }
     {
         self.cover_object(mask, object)?;
         let row = &mut self.rows[mask as usize];
-        row.set(object, tag);
+        row.set(object, position_plus_one);
         Ok(())
     }
 
-    /// Takes the tag of an object out.
+    /// Takes the position plus one of an object out.
     pub(crate) fn clear(&mut self, mask: u8, object: u32)
-        ensures at_key { tag_at self.new mask object ≡ 0 }
-        ensures elsewhere { (m o : ℕ) → (m ≡ mask → o ≡ object → ⊥) → tag_at self.new m o ≡ tag_at self.old m o }
+        ensures at_key { position_plus_one_at self.new mask object ≡ 0 }
+        ensures elsewhere { (m o : ℕ) → (m ≡ mask → o ≡ object → ⊥)
+            → position_plus_one_at self.new m o ≡ position_plus_one_at self.old m o }
     {
         if (mask as usize) < self.rows.len() {
             let row = &mut self.rows[mask as usize];

@@ -24,7 +24,7 @@ loop-left-smaller c =
 pub loop-left-preserved : goal.loop-left-preserved
 loop-left-preserved c =
     let inv = c.loop-left.invariant in
-    let after = c.let_go_dead.ensures in
+    let after = c.drop_dead_key.ensures in
     let t = trailing_zeros w64 c.loop-left.left in
     let (low, one) = first_left c.loop-left.left c.loop-left-test.true (omega (arith, c.loop-left.auto.left-fits)) in
     record {
@@ -33,7 +33,7 @@ loop-left-preserved c =
         | inl before ↦ inv.gone o at before dead (after.fewer o key)
         | inr is ↦
             let same : o ≡ 64 * c.args.index + t = omega (arith, at, is) in
-            after.gone (subst (λ (v : ℕ). flag_of c.args.objects.now v ≡ true) same dead) (subst (λ (v : ℕ). IsKey c.let_go_dead.new.self v) same key)
+            after.gone (subst (λ (v : ℕ). flag_of c.args.objects.now v ≡ true) same dead) (subst (λ (v : ℕ). IsKey c.drop_dead_key.new.self v) same key)
       ];
       fewer = λ o key. inv.fewer o (after.fewer o key);
       keyed = after.keyed;

@@ -3,8 +3,8 @@ use Rattle.std.proofs.lemmas.Bool.{both_ways}
 use Rattle.std.proofs.lemmas.Option.{get_or_from_slice_get}
 use Rattle.jm_index.specs.Index.{flag_of}
 use Rattle.jm_index.proofs.ListedLemmas.{flag_within}
-use Rattle.jm_index.proofs.index.Index.let_go_dead.Goals as goal
-use Rattle.jm_index.proofs.index.Index.let_go_dead.Goals.{else-object-len-via-then-object-len+else-is_dead, else-object-len-via-else-object-len}
+use Rattle.jm_index.proofs.index.Index.drop_dead_key.Goals as goal
+use Rattle.jm_index.proofs.index.Index.drop_dead_key.Goals.{else-object-len-via-then-object-len+else-is_dead, else-object-len-via-else-object-len}
 
 pub returns-else-object-len-clause-gone : goal.returns-else-object-len-clause-gone
 returns-else-object-len-clause-gone c = λ dead key. elim c.else-object-len.branch [

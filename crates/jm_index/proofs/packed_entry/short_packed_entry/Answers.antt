@@ -1,6 +1,6 @@
 use Rattle.jm_index.proofs.KeyLemmas.{objects_first, objects_rest}
-use Rattle.jm_index.proofs.FormLemmas.{bound_alone, bound_both}
-use Rattle.jm_index.proofs.form.short_form.Goals as goal
+use Rattle.jm_index.proofs.PackedEntryLemmas.{bound_alone, bound_both}
+use Rattle.jm_index.proofs.packed_entry.short_packed_entry.Goals as goal
 
 pub returns-in_default-clause-packed : goal.returns-in_default-clause-packed
 returns-in_default-clause-packed c =

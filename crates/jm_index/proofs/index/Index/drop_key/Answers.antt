@@ -2,8 +2,8 @@ use Rattle.std.proofs.Common.{ℕ, sym, ◌∙◌, subst, arith}
 use Rattle.std.proofs.lemmas.Bool.{both_ways}
 use Rattle.jm_index.specs.Index.{PairList, IsKey}
 use Rattle.jm_index.proofs.IndexLemmas.{IsIndexed-dropped, seen, key_unset, all_keyed, cleared_gone, cleared_fewer}
-use Rattle.jm_index.proofs.index.Index.let_go.Goals.{else-has-via-then-has+else-not-is_set, else-has-via-else-has}
-use Rattle.jm_index.proofs.index.Index.let_go.Goals as goal
+use Rattle.jm_index.proofs.index.Index.drop_key.Goals.{else-has-via-then-has+else-not-is_set, else-has-via-else-has}
+use Rattle.jm_index.proofs.index.Index.drop_key.Goals as goal
 
 pub invariant_of-self : goal.invariant_of-self
 invariant_of-self c = rw c.set.ensures (IsIndexed-dropped _ _ _ _ _ _ c.self.invariant (c.has.ensures.yes c.if-has.true) c.clear.ensures)
