@@ -1,9 +1,9 @@
 -- No more `~` wait for their operand than tokens were taken.
 use Rattle.std.proofs.Common.{ℕ, suc, ◌≡◌, ◌≤◌, Bool, true, false, cond, List, [], ◌∷◌, Option, Some, IfSome, subst, arith}
-use Rattle.jm_ere.specs.declared.reader.Lexeme.{Lexeme}
-use Rattle.jm_ere.specs.declared.reader.Lexeme.TheVariants.{Operand, Opening, Closing, Tilde, Asterisk, PlusSign, Bar, Ampersand, Other}
-use Rattle.jm_ere.specs.declared.reader.Pending.{Pending}
-use Rattle.jm_ere.specs.declared.reader.Parser.{Parser}
+use Rattle.jm_ere.specs.declared.parse.Lexeme.{Lexeme}
+use Rattle.jm_ere.specs.declared.parse.Lexeme.TheVariants.{Operand, Opening, Closing, Tilde, Asterisk, PlusSign, Bar, Ampersand, Other}
+use Rattle.jm_ere.specs.declared.parse.Pending.{Pending}
+use Rattle.jm_ere.specs.declared.parse.Parser.{Parser}
 use Rattle.jm_ere.specs.Rules.{juxtaposed, closed, before_operand, behind_operand, after_lexeme}
 
 -- of no parenthesis that is open more than n wait

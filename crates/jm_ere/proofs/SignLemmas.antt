@@ -10,8 +10,8 @@ use Rattle.jm_text.specs.Texts.{is_name, is_word, is_mark, is_word_kind, is_mark
 use Rattle.jm_reading.specs.Tokens.{IsName, IsWord, IsMark}
 use Rattle.jm_reading.proofs.TokenLemmas.{other_mark}
 use Rattle.jm_ere.specs.declared.formula.Atom.TheVariants.{Name, Epsilon, Empty}
-use Rattle.jm_ere.specs.declared.reader.Lexeme.{Lexeme}
-use Rattle.jm_ere.specs.declared.reader.Lexeme.TheVariants.{Operand, Opening, Closing, Tilde, Asterisk, PlusSign, Bar, Ampersand, Other}
+use Rattle.jm_ere.specs.declared.parse.Lexeme.{Lexeme}
+use Rattle.jm_ere.specs.declared.parse.Lexeme.TheVariants.{Operand, Opening, Closing, Tilde, Asterisk, PlusSign, Bar, Ampersand, Other}
 use Rattle.jm_ere.specs.Rules.{lexeme_of}
 
 -- what the token is

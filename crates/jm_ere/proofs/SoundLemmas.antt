@@ -11,10 +11,10 @@ use Rattle.jm_ere.specs.declared.formula.Unary.TheVariants.{Not, Any, Many}
 use Rattle.jm_ere.specs.declared.formula.Binary.TheVariants.{Then, Either, Both}
 use Rattle.jm_ere.specs.declared.formula.Node.{Node}
 use Rattle.jm_ere.specs.declared.formula.Node.TheVariants.{Push, Wrap, Join}
-use Rattle.jm_ere.specs.declared.reader.Lexeme.{Lexeme}
-use Rattle.jm_ere.specs.declared.reader.Lexeme.TheVariants.{Operand, Opening, Closing, Tilde, Asterisk, PlusSign, Bar, Ampersand, Other}
-use Rattle.jm_ere.specs.declared.reader.Pending.{Pending}
-use Rattle.jm_ere.specs.declared.reader.Parser.{Parser}
+use Rattle.jm_ere.specs.declared.parse.Lexeme.{Lexeme}
+use Rattle.jm_ere.specs.declared.parse.Lexeme.TheVariants.{Operand, Opening, Closing, Tilde, Asterisk, PlusSign, Bar, Ampersand, Other}
+use Rattle.jm_ere.specs.declared.parse.Pending.{Pending}
+use Rattle.jm_ere.specs.declared.parse.Parser.{Parser}
 use Rattle.jm_ere.specs.Formulas.{Formula, Leaf, Over, Between}
 use Rattle.jm_ere.specs.Spelling.{Rule, AltRule, AndRule, SeqRule, NotRule, RepRule, SpellsBy, name, epsilon, empty, inside, one_atom, any, many, one_rep, complement, one_not, sequence, one_seq, both, one_and, either, Spells}
 use Rattle.jm_ere.specs.Rules.{lexeme_of, postfix, flag, complements, fresh, beginning, juxtaposed, before_operand, behind_operand, after_lexeme, after_all, finished, parsed}

@@ -12,10 +12,10 @@ use Rattle.jm_ere.specs.declared.formula.Binary.{Binary}
 use Rattle.jm_ere.specs.declared.formula.Binary.TheVariants.{Then, Either, Both}
 use Rattle.jm_ere.specs.declared.formula.Node.{Node}
 use Rattle.jm_ere.specs.declared.formula.Node.TheVariants.{Push, Wrap, Join}
-use Rattle.jm_ere.specs.declared.reader.Lexeme.{Lexeme}
-use Rattle.jm_ere.specs.declared.reader.Lexeme.TheVariants.{Operand, Opening, Closing, Tilde, Asterisk, PlusSign, Bar, Ampersand, Other}
-use Rattle.jm_ere.specs.declared.reader.Pending.{Pending}
-use Rattle.jm_ere.specs.declared.reader.Parser.{Parser}
+use Rattle.jm_ere.specs.declared.parse.Lexeme.{Lexeme}
+use Rattle.jm_ere.specs.declared.parse.Lexeme.TheVariants.{Operand, Opening, Closing, Tilde, Asterisk, PlusSign, Bar, Ampersand, Other}
+use Rattle.jm_ere.specs.declared.parse.Pending.{Pending}
+use Rattle.jm_ere.specs.declared.parse.Parser.{Parser}
 use Rattle.jm_ere.specs.Formulas.{Formula, Leaf, Over, Between}
 
 -- what a token means

@@ -8,7 +8,7 @@ ghost use Rattle.jm_ere.specs.Refusals.{FindsForms, FindsFault, IsCause};
 
 use crate::forms::copy;
 use crate::graph::Forms;
-use crate::live::{matching, spread};
+use crate::live::{close_backward, matching};
 use crate::tree::Ere;
 use jm_events::{EventTable, Names};
 use jm_model::{NoMemory, SpecError};
@@ -64,7 +64,7 @@ fn add_groups(alloc: Global, forms: &[Ere], table: &mut Table) -> Result<(), Spe
 {
     let mut live = matching(alloc, forms)?;
     let matched = places(alloc, live.as_slice(), |flag| *flag)?;
-    spread(table, &mut live);
+    close_backward(table, &mut live);
     let failed = places(alloc, live.as_slice(), |flag| !*flag)?;
     table.add_group(matched.as_slice())?;
     table.add_group(failed.as_slice())?;

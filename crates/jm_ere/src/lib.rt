@@ -6,10 +6,9 @@
 //! from any derivative: its words, by cases on the expression.
 #![tactic(auto)]
 
-mod build;
+mod check;
 mod compile;
 mod derivative;
-mod faults;
 mod forms;
 mod formula;
 mod graph;
@@ -17,9 +16,10 @@ mod keys;
 mod laws;
 mod live;
 mod order;
+mod parse;
 mod parts;
-mod reader;
-mod reading;
+mod reads;
+mod resolve;
 mod sizes;
 mod stack;
 mod suffix;
@@ -27,5 +27,5 @@ mod tree;
 mod written;
 
 pub use laws::{forms_are_normal, one_order, one_reading};
-pub use reading::read;
+pub use reads::read;
 pub use tree::{Ere, Operator, Tree};

@@ -56,7 +56,7 @@ fn next_live(table: &Table, live: &[bool]) -> Option<u16>
 
 /// Sets the flags of the states from which a state can be reached whose flag was set.
 #[tactic(auto, using(crate::proofs::LiveLemmas::dead_less, crate::proofs::LiveLemmas::live_more, crate::proofs::LiveLemmas::length_set_flag))]
-pub(crate) fn spread(table: &Table, live: &mut Vec<bool>)
+pub(crate) fn close_backward(table: &Table, live: &mut Vec<bool>)
     requires many { vec_len live.old ≡ table.now.states }
     ensures live { (forms : List Expression) → AreLive table.now forms live.old.items
         → AreLive table.now forms live.new.items }

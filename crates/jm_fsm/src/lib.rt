@@ -6,16 +6,16 @@
 //! from any table: the grammar as a relation, and the path that a word spells from the first state.
 #![tactic(auto)]
 
-mod build;
+mod check;
 mod compile;
-mod faults;
 mod formula;
 mod graph;
 mod laws;
 mod machine;
-mod reader;
-mod reading;
+mod parse;
+mod reads;
+mod resolve;
 
 pub use laws::{aliases_as_written, one_reading, states_as_written};
 pub use machine::{Destination, Fsm};
-pub use reading::read;
+pub use reads::read;

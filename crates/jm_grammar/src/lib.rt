@@ -8,16 +8,16 @@
 //! word (Hopcroft and Ullman 1979).
 #![tactic(auto)]
 
-mod build;
-mod faults;
+mod check;
 mod formula;
 mod grammar;
 mod laws;
+mod parse;
 mod productive;
-mod reader;
-mod reading;
+mod reads;
 mod reduce;
+mod resolve;
 
 pub use grammar::{Grammar, GrammarSymbol, Production};
 pub use laws::{letters_are_events, nonterminals_are_few, one_reading, productions_as_written};
-pub use reading::read;
+pub use reads::read;

@@ -7,18 +7,18 @@
 //! subformulas alone is the method of Havelund and Rosu (2002).
 #![tactic(auto)]
 
-mod build;
+mod check;
 mod compile;
-mod faults;
 mod formula;
 mod graph;
 mod laws;
 mod lexicon;
+mod parse;
 mod past;
-mod reader;
-mod reading;
+mod reads;
+mod resolve;
 mod vector;
 
 pub use laws::one_reading;
 pub use past::Past;
-pub use reading::read;
+pub use reads::read;
