@@ -37,14 +37,14 @@ fn go_on(table: &Table, goal: &Goal, arrivals: &mut Vec<MaskSet>) -> bool
 {
     let mut changed = false;
     for state in 0..table.len() {
-        let more = spread(table, goal, arrivals, state);
+        let more = propagate(table, goal, arrivals, state);
         changed |= more;
     }
     changed
 }
 
 /// The part of a round for a state.
-fn spread(table: &Table, goal: &Goal, arrivals: &mut Vec<MaskSet>, state: u16) -> bool
+fn propagate(table: &Table, goal: &Goal, arrivals: &mut Vec<MaskSet>, state: u16) -> bool
     requires groups { All (λ group. group < length table.now.groups) goal.now.groups }
     requires count { length arrivals.old.items ≡ table.now.states }
     requires state { state < table.now.states }

@@ -8,11 +8,11 @@ use Rattle.jm_grammar.specs.declared.grammar.GrammarSymbol.TheVariants.{Letter}
 use Rattle.jm_grammar.specs.Grammars.{GrammarDefinition}
 use Rattle.jm_grammar.specs.Meanings.{IsWord, no_tree, leaf}
 use Rattle.jm_earley.specs.declared.item.Item.{Item}
-use Rattle.jm_earley.specs.declared.place.Place.{Place}
+use Rattle.jm_earley.specs.declared.earley_set.EarleySet.{EarleySet}
 use Rattle.jm_earley.specs.Items.{IsAwaited, at_start, IsItem, IsItemSet, IsWhole, symbol_after, advanced}
 use Rattle.jm_earley.specs.Kept.{place_at, IsKept, AreBack, AreLinked}
-use Rattle.jm_earley.specs.Places.{AreEarlier}
-use Rattle.jm_earley.specs.Waiting.{AreWaiting}
+use Rattle.jm_earley.specs.EarleySets.{AreEarlier}
+use Rattle.jm_earley.specs.AwaitIndex.{AreWaiting}
 use Rattle.jm_earley.specs.Charts.{ChartsDefinition, ChartDefinition, AreItemSets, IsPlaceOf, IsChartOf, IsChartWith}
 use Rattle.jm_earley.specs.Growth.{Grows, IsAdvancedOver, AreAdvancedOver, IsPrediction, ArePredicted}
 use Rattle.jm_earley.proofs.PlaceLemmas.{same_push}
@@ -39,21 +39,21 @@ module _ (charts : ChartsDefinition) where
   g = charts.grammar
 
   -- the last place is that of the whole word
-  pub last_place : (word : List ℕ) (chart : ChartDefinition) → IsChartOf charts word chart → (p : Place) → slice_get chart.places (length chart.places - 1) ≡ Some p → IsPlaceOf charts word p
+  pub last_place : (word : List ℕ) (chart : ChartDefinition) → IsChartOf charts word chart → (p : EarleySet) → slice_get chart.places (length chart.places - 1) ≡ Some p → IsPlaceOf charts word p
   last_place word chart of_word p at =
       let same : of_word.last ≡ p = same_Some of_word.last p (sym of_word.ends ∙ at) in
       let whole : take (length word) word ≡ word = take_all (length word) word (omega arith) in
       let is : IsPlaceOf charts word of_word.last = subst (λ (w : List ℕ). IsPlaceOf charts w of_word.last) whole (of_word.each (length word) of_word.last of_word.here).1 in
-      subst (λ (q : Place). IsPlaceOf charts word q) same is
+      subst (λ (q : EarleySet). IsPlaceOf charts word q) same is
 
   pub lists_are : (word : List ℕ) (chart : ChartDefinition) → IsChartOf charts word chart → AreWaiting g chart.places
   lists_are word chart of_word position p at = (of_word.each position p at).1.waiting
 
   -- ---- a new last place
 
-  module _ (word : List ℕ) (earlier : List Place) (position : ℕ) (first : List Item) (count : position ≡ length word)
-      (each : (k : ℕ) (p : Place) → place_at earlier k ≡ Some p → (k < length word) × IsPlaceOf charts (take k word) p)
-      (closed : (k : ℕ) (p : Place) → place_at earlier k ≡ Some p → (x : Item) → Contains p.items x → IsKept earlier x.origin)
+  module _ (word : List ℕ) (earlier : List EarleySet) (position : ℕ) (first : List Item) (count : position ≡ length word)
+      (each : (k : ℕ) (p : EarleySet) → place_at earlier k ≡ Some p → (k < length word) × IsPlaceOf charts (take k word) p)
+      (closed : (k : ℕ) (p : EarleySet) → place_at earlier k ≡ Some p → (x : Item) → Contains p.items x → IsKept earlier x.origin)
       (linked : AreLinked earlier)
       (none : (length earlier ≡ 0) ↔ (length word ≡ 0))
       (begins : (x : Item) → Contains first x → (x.origin ≡ position) ⊎ IsKept earlier x.origin)
@@ -96,13 +96,13 @@ module _ (charts : ChartsDefinition) where
             | inr (end, same) ↦
                 let whole : take k word ≡ word = take_all k word (omega (arith, end, made.place_is.position_is, count)) in (
                   (omega (arith, end, made.place_is.position_is, count)),
-                  subst (λ (w : List ℕ). IsPlaceOf charts w p) (sym whole) (subst (λ (q : Place). IsPlaceOf charts word q) (sym same) here),
+                  subst (λ (w : List ℕ). IsPlaceOf charts w p) (sym whole) (subst (λ (q : EarleySet). IsPlaceOf charts word q) (sym same) here),
                 )
           ];
           closed = λ k p at x there. elim (follows.only k p at) [
             | inl old ↦ follows.closed back k p at old x there (closed k p old x there)
             | inr (end, same) ↦
-                let mine : Contains items x = subst (λ (q : Place). Contains q.items x) same there in
+                let mine : Contains items x = subst (λ (q : EarleySet). Contains q.items x) same there in
                 elim (from x mine) [
                   | inl origin ↦
                       (made.place, subst (λ (k' : ℕ). place_at chart.places k' ≡ Some made.place) (made.place_is.position_is ∙ sym origin) follows.here)
@@ -114,7 +114,7 @@ module _ (charts : ChartsDefinition) where
 
   -- ---- the empty word
 
-  pub begun_chart : (start : ℕ) (earlier : List Place) (nothing first : List Item) (chart : ChartDefinition) → start ≡ g.start → earlier ≡ [] → nothing ≡ []
+  pub begun_chart : (start : ℕ) (earlier : List EarleySet) (nothing first : List Item) (chart : ChartDefinition) → start ≡ g.start → earlier ≡ [] → nothing ≡ []
       → Grows (IsPrediction g 0 start) nothing first → ArePredicted g 0 start first → IsChartWith charts earlier 0 first chart → IsChartOf charts [] chart
   begun_chart start earlier nothing first chart start_is none nothing_is grows all made =
       let predictions : Grows (IsPrediction g 0 g.start) [] first =
@@ -127,14 +127,14 @@ module _ (charts : ChartsDefinition) where
       let (number, p, at, left, is) = prediction x there in
       subst (λ (y : Item). IsItem g [] y) (sym is) (item_begins g [] number p at (subst (λ (m : ℕ). IsAwaited g.productions g.start [] m) (sym left) at_start)))
       (λ before a e. absurd (no_push before a.0 e)) (λ e. each) chart
-      (subst (λ (l : List Place). IsChartWith charts l 0 first chart) none made)
+      (subst (λ (l : List EarleySet). IsChartWith charts l 0 first chart) none made)
     where
       no_push : (xs : List ℕ) (x : ℕ) → [] ≡ xs ++ x ∷ [] → ⊥
       no_push xs x e = absurd (omega (arith, ap length e, length-append xs (x ∷ [])))
 
   -- ---- one letter more
 
-  module _ (word : List ℕ) (old : ChartDefinition) (of_word : IsChartOf charts word old) (letter : LetterType) (last : Place)
+  module _ (word : List ℕ) (old : ChartDefinition) (of_word : IsChartOf charts word old) (letter : LetterType) (last : EarleySet)
       (at : slice_get old.places (length old.places - 1) ≡ Some last) where
     abbrev longer : List ℕ
     longer = word ++ letter.0 ∷ []
@@ -145,7 +145,7 @@ module _ (charts : ChartsDefinition) where
     longer_is : length longer ≡ length word + 1
     longer_is = omega (arith, length-append word (letter.0 ∷ []))
 
-    old_each : (k : ℕ) (p : Place) → place_at old.places k ≡ Some p → (k < length longer) × IsPlaceOf charts (take k longer) p
+    old_each : (k : ℕ) (p : EarleySet) → place_at old.places k ≡ Some p → (k < length longer) × IsPlaceOf charts (take k longer) p
     old_each k p there =
         let known = of_word.each k p there in
         let same : take k longer ≡ take k word = take-append-le k word (letter.0 ∷ []) (omega (arith, known.0)) in
@@ -156,7 +156,7 @@ module _ (charts : ChartsDefinition) where
 
     -- the last place is at the length of the word
     pub last_at : place_at old.places (length word) ≡ Some last
-    last_at = of_word.here ∙ ap (λ (p : Place). Some p) same_last
+    last_at = of_word.here ∙ ap (λ (p : EarleySet). Some p) same_last
 
     pub grown_chart : (position : ℕ) (nothing first : List Item) (chart : ChartDefinition) → position ≡ length word + 1 → nothing ≡ []
         → Grows (IsAdvancedOver g last.items (Letter letter)) nothing first → AreAdvancedOver g last.items (Letter letter) first → IsChartWith charts old.places position first chart

@@ -10,7 +10,7 @@ use Rattle.jm_grammar.specs.Meanings.{Trees, no_tree, leaf, node, Derives, IsWor
 use Rattle.jm_grammar.proofs.RoundLemmas.{trees_append}
 use Rattle.jm_earley.specs.declared.item.Item.{Item}
 use Rattle.jm_earley.specs.Items.{IsAwaited, at_start, inside, IsItem}
-use Rattle.jm_earley.specs.Futures.{IsRest, at_end, within, IsContinuation}
+use Rattle.jm_earley.specs.Continuations.{IsRest, at_end, within, IsContinuation}
 
 -- ---- lists that are cut in two ways
 

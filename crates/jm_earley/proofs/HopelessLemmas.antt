@@ -11,8 +11,8 @@ use Rattle.jm_grammar.specs.Meanings.{Trees, no_tree, leaf, IsWord, IsHopeless, 
 use Rattle.jm_grammar.proofs.RoundLemmas.{trees_append}
 use Rattle.jm_earley.specs.declared.item.Item.{Item}
 use Rattle.jm_earley.specs.Items.{IsAwaited, at_start, inside, IsItem, IsItemSet}
-use Rattle.jm_earley.specs.Futures.{IsRest, at_end, within}
-use Rattle.jm_earley.specs.Places.{AllSpell}
+use Rattle.jm_earley.specs.Continuations.{IsRest, at_end, within}
+use Rattle.jm_earley.specs.EarleySets.{AllSpell}
 use Rattle.jm_earley.proofs.ExtensionLemmas.{item_production, continued, found}
 use Rattle.jm_earley.proofs.SpellLemmas.{Contains-head}
 

@@ -12,7 +12,7 @@ use Rattle.jm_grammar.specs.Grammars.{GrammarDefinition}
 use Rattle.jm_grammar.specs.Meanings.{Trees, no_tree, leaf, node, Derives, IsWord}
 use Rattle.jm_grammar.proofs.RoundLemmas.{trees_append}
 use Rattle.jm_earley.specs.declared.item.Item.{Item}
-use Rattle.jm_earley.specs.declared.place.Place.{Place}
+use Rattle.jm_earley.specs.declared.earley_set.EarleySet.{EarleySet}
 use Rattle.jm_earley.specs.Items.{IsAwaited, at_start, inside, IsItem, IsItemSet, symbol_after, finished_left, advanced, IsWhole}
 use Rattle.jm_earley.specs.Growth.{IsAdvancedOver, IsPrediction, ArePredicted, IsStep, predicts, skips, completes, IsWorked, IsMade, given, stepped, IsClosure}
 use Rattle.jm_earley.specs.Kept.{place_at, IsKept}
@@ -109,12 +109,12 @@ module _ (g : GrammarDefinition) where
 
   -- ---- each step keeps what an item is
 
-  module _ (word : List ℕ) (kept : List Place) (place : ℕ) (exact : AreItemSets g word kept) (count : place ≡ length word) where
+  module _ (word : List ℕ) (kept : List EarleySet) (place : ℕ) (exact : AreItemSets g word kept) (count : place ≡ length word) where
     prediction_sound : (x : Item) (n : ℕ) (made : Item) → IsItem g word x → symbol_after g x ≡ Some (Nonterminal n) → IsPrediction g place n made → IsItem g word made
     prediction_sound x n made item after (number, p, at, left, is) =
         subst (λ (y : Item). IsItem g word y) (sym (is ∙ ap (λ k. begins number k) count)) (item_predicted word x n number p item after at left)
 
-    completion_sound : (x : Item) (n : ℕ) (from : Place) (made : Item) → IsItem g word x → finished_left g x ≡ Some n → place_at kept x.origin ≡ Some from → IsAdvancedOver g from.items (Nonterminal n) made → IsItem g word made
+    completion_sound : (x : Item) (n : ℕ) (from : EarleySet) (made : Item) → IsItem g word x → finished_left g x ≡ Some n → place_at kept x.origin ≡ Some from → IsAdvancedOver g from.items (Nonterminal n) made → IsItem g word made
     completion_sound x n from made item finished at (y, there, after, is) =
         let d = item_derives word x n item finished in
         let front : take x.origin word ≡ d.0 = ap (λ (l : List ℕ). take x.origin l) d.2 ∙ take_at d.0 d.1 x.origin d.3 in
@@ -213,7 +213,7 @@ module _ (g : GrammarDefinition) where
   -- ---- the items of a place
 
   -- an item that is made began here, or at a place that is kept
-  module _ (kept : List Place) (place : ℕ) (first : List Item) (closed : (position : ℕ) (p : Place) → place_at kept position ≡ Some p → (x : Item) → Contains p.items x → IsKept kept x.origin)
+  module _ (kept : List EarleySet) (place : ℕ) (first : List Item) (closed : (position : ℕ) (p : EarleySet) → place_at kept position ≡ Some p → (x : Item) → Contains p.items x → IsKept kept x.origin)
       (begins_kept : (x : Item) → Contains first x → (x.origin ≡ place) ⊎ IsKept kept x.origin) where
     step_kept : (x made : Item) → (x.origin ≡ place) ⊎ IsKept kept x.origin → IsStep g kept place x made → (made.origin ≡ place) ⊎ IsKept kept made.origin
     step_kept x made from (predicts n after (number, p, at, left, is)) = inl (ap (λ (y : Item). y.origin) is)
@@ -225,7 +225,7 @@ module _ (g : GrammarDefinition) where
     made_kept (given x there) = begins_kept x there
     made_kept (stepped x made before step) = step_kept x made (made_kept before) step
 
-  pub closure_exact : (word : List ℕ) (kept : List Place) (place : ℕ) (first items : List Item) → AreItemSets g word kept → place ≡ length word → IsClosure g kept place first items
+  pub closure_exact : (word : List ℕ) (kept : List EarleySet) (place : ℕ) (first items : List Item) → AreItemSets g word kept → place ≡ length word → IsClosure g kept place first items
       → ((x : Item) → Contains items x → x.origin < place → IsKept kept x.origin)
       → ((x : Item) → Contains first x → IsItem g word x)
       → ((before : List ℕ) (a : LetterType) → word ≡ before ++ a.0 ∷ [] → (x : Item) → IsItem g before x → symbol_after g x ≡ Some (Letter a) → Contains first (advanced x))

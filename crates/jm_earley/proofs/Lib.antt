@@ -4,7 +4,7 @@ pub mod GrowthLemmas
 pub mod ItemLemmas
 pub mod KeptLemmas
 pub mod ReachLemmas
-pub mod WaitingLemmas
+pub mod AwaitIndexLemmas
 pub mod WorkLemmas
 pub mod ChartLemmas
 pub mod ExtensionLemmas
@@ -12,6 +12,6 @@ pub mod BitLemmas
 pub mod RuleLemmas
 pub mod SpellLemmas
 pub mod DeadLemmas
-pub mod FutureLemmas
+pub mod ContinuationLemmas
 pub mod AnswerLemmas
 pub mod HopelessLemmas

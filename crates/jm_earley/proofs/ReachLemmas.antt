@@ -4,12 +4,12 @@ use Rattle.std.proofs.lemmas.List.{length-take-le}
 use Rattle.std.proofs.lemmas.List.Elements.{Contains-push_cases, Contains-push, Contains-append_left}
 use Rattle.std.proofs.lemmas.Option.{same_Some, slice_get_within}
 use Rattle.jm_earley.specs.declared.item.Item.{Item}
-use Rattle.jm_earley.specs.declared.place.Place.{Place}
+use Rattle.jm_earley.specs.declared.earley_set.EarleySet.{EarleySet}
 use Rattle.jm_earley.specs.Kept.{IsSorted, place_at, IsKept, IsPlaceNumber, AreLinked, IsReach, IsReachTo, IsFollowedBy}
 use Rattle.jm_earley.proofs.PlaceLemmas.{place-Contains, slice_get-append, slice_get-push, slice_get-push_cases, take_next, get-take, take-get}
 use Rattle.jm_earley.proofs.KeptLemmas.{number_at, sorted_at, sorted_push, number_le}
 
-module _ (places : List Place) where
+module _ (places : List EarleySet) where
   -- ---- item by item
 
   pub reach_none : (items : List Item) → items ≡ [] → IsReach places items 0
@@ -56,26 +56,26 @@ module _ (places : List Place) where
 
   -- ---- with the new place
 
-  module _ (sorted : IsSorted places) (place : Place) (count : ℕ) (list new : List Place) (behind : (number : ℕ) (p : Place) → slice_get places number ≡ Some p → p.position < place.position)
+  module _ (sorted : IsSorted places) (place : EarleySet) (count : ℕ) (list new : List EarleySet) (behind : (number : ℕ) (p : EarleySet) → slice_get places number ≡ Some p → p.position < place.position)
       (reach : IsReach places place.items count) (list_is : list ≡ take count places) (is : new ≡ list ++ place ∷ []) where
-    old_one : (number : ℕ) (p : Place) → slice_get list number ≡ Some p → (number < count) × (slice_get places number ≡ Some p)
-    old_one number p at = get-take places count number p (ap (λ (l : List Place). slice_get l number) (sym list_is) ∙ at)
+    old_one : (number : ℕ) (p : EarleySet) → slice_get list number ≡ Some p → (number < count) × (slice_get places number ≡ Some p)
+    old_one number p at = get-take places count number p (ap (λ (l : List EarleySet). slice_get l number) (sym list_is) ∙ at)
 
-    cases : (number : ℕ) (p : Place) → slice_get new number ≡ Some p → (slice_get list number ≡ Some p) ⊎ ((number ≡ length list) × (place ≡ p))
-    cases number p at = slice_get-push_cases list place number p (ap (λ (l : List Place). slice_get l number) (sym is) ∙ at)
+    cases : (number : ℕ) (p : EarleySet) → slice_get new number ≡ Some p → (slice_get list number ≡ Some p) ⊎ ((number ≡ length list) × (place ≡ p))
+    cases number p at = slice_get-push_cases list place number p (ap (λ (l : List EarleySet). slice_get l number) (sym is) ∙ at)
 
     count_is : length list ≡ count
     count_is = ap length list_is ∙ length-take-le count places reach.within
 
     pub new_sorted : IsSorted new
-    new_sorted = subst (λ (l : List Place). IsSorted l) (sym is) (sorted_push list place
-        (subst (λ (l : List Place). IsSorted l) (sym list_is) (sorted_first sorted count))
+    new_sorted = subst (λ (l : List EarleySet). IsSorted l) (sym is) (sorted_push list place
+        (subst (λ (l : List EarleySet). IsSorted l) (sym list_is) (sorted_first sorted count))
         (λ q there. let (number, at) = place-Contains list q there in behind number q (old_one number q at).1))
 
     kept_where : (number : ℕ) (position : ℕ) → number < count → IsPlaceNumber places position number → IsKept new position
     kept_where number position lt (p, at, here) =
-        let in_list : slice_get list number ≡ Some p = ap (λ (l : List Place). slice_get l number) list_is ∙ take-get places count number p lt at in
-        let in_new : slice_get new number ≡ Some p = ap (λ (l : List Place). slice_get l number) is ∙ slice_get-append list (place ∷ []) number p in_list in
+        let in_list : slice_get list number ≡ Some p = ap (λ (l : List EarleySet). slice_get l number) list_is ∙ take-get places count number p lt at in
+        let in_new : slice_get new number ≡ Some p = ap (λ (l : List EarleySet). slice_get l number) is ∙ slice_get-append list (place ∷ []) number p in_list in
         subst (λ (k : ℕ). IsKept new k) here (p, sorted_at new new_sorted number p in_new)
 
     -- each place but the last is one where an item of the next began
@@ -89,14 +89,14 @@ module _ (places : List Place) where
         | inl first ↦
             let (x, among, (p', at, here)) = reach.last number (end ∙ count_is) in
             let is_it : p' ≡ p = same_Some p' p (sym at ∙ (old_one number p first).1) in
-            (x, subst (λ (r : Place). Contains r.items x) same among, sym here ∙ ap (λ (r : Place). r.position) is_it)
+            (x, subst (λ (r : EarleySet). Contains r.items x) same among, sym here ∙ ap (λ (r : EarleySet). r.position) is_it)
         | inr (early, other) ↦ absurd (omega (arith, end, early))
       ]
     ]
 
     pub followed : IsFollowedBy places place new
     followed =
-        let last : slice_get new (length list) ≡ Some place = ap (λ (l : List Place). slice_get l (length list)) is ∙ slice_get-push list place in
+        let last : slice_get new (length list) ≡ Some place = ap (λ (l : List EarleySet). slice_get l (length list)) is ∙ slice_get-push list place in
         let end : length new - 1 ≡ length list = omega (arith, ap length is, length-append list (place ∷ [])) in
         record {
           ends = ap (λ (k : ℕ). slice_get new k) end ∙ last;
@@ -105,7 +105,7 @@ module _ (places : List Place) where
               let number = number_at new position p at in
               elim (cases number.0 p number.1) [
                 | inl old ↦ inl (subst (λ (k : ℕ). place_at places k ≡ Some p) number.2 (sorted_at places sorted number.0 p (old_one number.0 p old).1))
-                | inr same ↦ inr (sym number.2 ∙ ap (λ (q : Place). q.position) (sym same.1), sym same.1)
+                | inr same ↦ inr (sym number.2 ∙ ap (λ (q : EarleySet). q.position) (sym same.1), sym same.1)
               ];
           linked = new_linked;
           first = λ x there (p, at).
@@ -122,6 +122,6 @@ module _ (places : List Place) where
                     kept_where number.0 x.origin (omega (arith, le, known.0)) (q, number.1, number.2)
                 | inr same ↦
                     let old_number = number_at places position p at_old in
-                    absurd (omega (arith, behind old_number.0 p old_number.1, ap (λ (r : Place). r.position) same.1))
+                    absurd (omega (arith, behind old_number.0 p old_number.1, ap (λ (r : EarleySet). r.position) same.1))
               ];
         }

@@ -13,7 +13,7 @@ use Rattle.jm_grammar.proofs.RoundLemmas.{bit_of, of_bit, trees_append, SpellAll
 use Rattle.jm_earley.specs.declared.rule.Rule.{Rule}
 use Rattle.jm_earley.specs.declared.letter_set.LetterSet.{LetterSet}
 use Rattle.jm_earley.specs.Rules.{only, IsGained, at_once, later}
-use Rattle.jm_earley.specs.Futures.{DerivesLetters}
+use Rattle.jm_earley.specs.Continuations.{DerivesLetters}
 use Rattle.jm_earley.specs.LetterSets.{IsExact, are_spelled, has_letter, with_nonterminal, nonterminals, can_spell, can_go_on, spelling_rule}
 use Rattle.jm_earley.proofs.BitLemmas.{or_cases, or_l, or_r, none_set, meets_some, some_meets, only_same, only_only, has_set, set_has}
 

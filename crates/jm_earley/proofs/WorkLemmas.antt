@@ -9,7 +9,7 @@ use Rattle.jm_grammar.specs.declared.grammar.Production.{Production}
 use Rattle.jm_grammar.specs.Grammars.{GrammarDefinition}
 use Rattle.jm_grammar.specs.Meanings.{Derives}
 use Rattle.jm_earley.specs.declared.item.Item.{Item}
-use Rattle.jm_earley.specs.declared.place.Place.{Place}
+use Rattle.jm_earley.specs.declared.earley_set.EarleySet.{EarleySet}
 use Rattle.jm_earley.specs.Items.{symbol_after, finished_left, advanced}
 use Rattle.jm_earley.specs.Growth.{Grows, IsPrediction, ArePredicted, IsPredictedSet, IsStep, predicts, skips, IsWorked, IsMade, stepped}
 use Rattle.jm_earley.proofs.PlaceLemmas.{Contains-place, place-Contains, place_of, past_end}
@@ -39,7 +39,7 @@ module _ (g : GrammarDefinition) where
     pub predicted_set_grows : (place predicted : ℕ) (a b : List Item) → Grows P a b → IsPredictedSet g place predicted a → IsPredictedSet g place predicted b
     predicted_set_grows place predicted a b grows all n bit = predicted_grows place n a b grows (all n bit)
 
-    pub worked_grows : (kept : List Place) (place : ℕ) (x : Item) (a b : List Item) → Grows P a b → IsWorked g kept place a x → IsWorked g kept place b x
+    pub worked_grows : (kept : List EarleySet) (place : ℕ) (x : Item) (a b : List Item) → Grows P a b → IsWorked g kept place a x → IsWorked g kept place b x
     worked_grows kept place x a b grows worked = record {
       predicted = λ n after. predicted_grows place n a b grows (worked.predicted n after);
       skipped = λ n after empty. grows_contains P a b (advanced x) grows (worked.skipped n after empty);
@@ -50,7 +50,7 @@ module _ (g : GrammarDefinition) where
   abbrev pub IsSkip : Item → ℕ → Item → Type 0
   IsSkip item n x = Derives g.productions n [] × (x ≡ advanced item)
 
-  module _ (kept : List Place) (place : ℕ) (item : Item) where
+  module _ (kept : List EarleySet) (place : ℕ) (item : Item) where
     pub nonterminal_grows : (n : ℕ) (a b d : List Item) → symbol_after g item ≡ Some (Nonterminal n) → Grows (IsPrediction g place n) a b → Grows (IsSkip item n) b d → Grows (IsStep g kept place item) a d
     nonterminal_grows n a b d after first second =
         let S = λ (x : Item). IsStep g kept place item x in
@@ -80,7 +80,7 @@ module _ (g : GrammarDefinition) where
 
   -- ---- the work so far
 
-  module _ (kept : List Place) (place : ℕ) (first : List Item) where
+  module _ (kept : List EarleySet) (place : ℕ) (first : List Item) where
     abbrev pub AreWorked : ℕ → List Item → Type 0
     AreWorked number items = (k : ℕ) (x : Item) → k < number → slice_get items k ≡ Some x → IsWorked g kept place items x
 

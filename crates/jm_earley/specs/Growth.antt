@@ -7,7 +7,7 @@ use Rattle.jm_grammar.specs.declared.grammar.Production.{Production}
 use Rattle.jm_grammar.specs.Grammars.{GrammarDefinition}
 use Rattle.jm_grammar.specs.Meanings.{Derives}
 use Rattle.jm_earley.specs.declared.item.Item.{Item}
-use Rattle.jm_earley.specs.declared.place.Place.{Place}
+use Rattle.jm_earley.specs.declared.earley_set.EarleySet.{EarleySet}
 use Rattle.jm_earley.specs.Items.{symbol_after, finished_left, advanced}
 use Rattle.jm_earley.specs.Kept.{place_at}
 
@@ -47,14 +47,14 @@ module _ (g : GrammarDefinition) (place : ℕ) where
   IsPredictedSet predicted items = (n : ℕ) → IsBitSet predicted n → ArePredicted n items
 
 -- at a place after those kept
-module _ (g : GrammarDefinition) (kept : List Place) (place : ℕ) where
+module _ (g : GrammarDefinition) (kept : List EarleySet) (place : ℕ) where
   -- What the rules make of an item: the productions of the nonterminal that it awaits; the item itself over a
   -- nonterminal that spells the empty word; the items that awaited its left side, where it is finished.
   pub data IsStep (x : Item) (made : Item) : Type 0 where
     predicts : (n : ℕ) → symbol_after g x ≡ Some (Nonterminal n) → IsPrediction g place n made → IsStep x made
     skips : (n : ℕ) → symbol_after g x ≡ Some (Nonterminal n) → Derives g.productions n [] → made ≡ advanced x
         → IsStep x made
-    completes : (n : ℕ) (from : Place) → finished_left g x ≡ Some n → place_at kept x.origin ≡ Some from
+    completes : (n : ℕ) (from : EarleySet) → finished_left g x ≡ Some n → place_at kept x.origin ≡ Some from
         → IsAdvancedOver g from.items (Nonterminal n) made → IsStep x made
 
   -- all that the rules make of an item is there
@@ -62,7 +62,7 @@ module _ (g : GrammarDefinition) (kept : List Place) (place : ℕ) where
     pub predicted : (n : ℕ) → symbol_after g x ≡ Some (Nonterminal n) → ArePredicted g place n items
     pub skipped : (n : ℕ) → symbol_after g x ≡ Some (Nonterminal n) → Derives g.productions n []
         → Contains items (advanced x)
-    pub completed : (n : ℕ) (from : Place) → finished_left g x ≡ Some n → place_at kept x.origin ≡ Some from
+    pub completed : (n : ℕ) (from : EarleySet) → finished_left g x ≡ Some n → place_at kept x.origin ≡ Some from
         → AreAdvancedOver g from.items (Nonterminal n) items
 
   -- the rules make the item from the first ones

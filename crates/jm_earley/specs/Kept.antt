@@ -1,26 +1,26 @@
 -- The places that a chart keeps.
 use Rattle.std.specs.Prelude.{ℕ, ◌≡◌, ◌<◌, ◌≤◌, ◌+◌, ◌-◌, ◌==◌, ◌⊎◌, List, [], ◌∷◌, Option, Some, None, Contains, length, slice_get, if◌then◌else◌}
 use Rattle.jm_earley.specs.declared.item.Item.{Item}
-use Rattle.jm_earley.specs.declared.place.Place.{Place}
+use Rattle.jm_earley.specs.declared.earley_set.EarleySet.{EarleySet}
 
 -- the place at a position
-abbrev pub place_at : List Place → ℕ → Option Place
+abbrev pub place_at : List EarleySet → ℕ → Option EarleySet
 place_at [] position = None
 place_at (p ∷ places) position = if p.position == position then Some p else place_at places position
 
-module _ (places : List Place) where
+module _ (places : List EarleySet) where
   -- positions increase
   abbrev pub IsSorted : Type 0
-  IsSorted = (i j : ℕ) (p q : Place) → i < j → slice_get places i ≡ Some p → slice_get places j ≡ Some q
+  IsSorted = (i j : ℕ) (p q : EarleySet) → i < j → slice_get places i ≡ Some p → slice_get places j ≡ Some q
       → p.position < q.position
 
   -- a place at the position is there
   abbrev pub IsKept : ℕ → Type 0
-  IsKept position = (p : Place) × (place_at places position ≡ Some p)
+  IsKept position = (p : EarleySet) × (place_at places position ≡ Some p)
 
   -- the place of this number is at the position
   abbrev pub IsPlaceNumber : ℕ → ℕ → Type 0
-  IsPlaceNumber position number = (p : Place) × (slice_get places number ≡ Some p) × (p.position ≡ position)
+  IsPlaceNumber position number = (p : EarleySet) × (slice_get places number ≡ Some p) × (p.position ≡ position)
 
   -- one of the items began at the place of this number
   abbrev pub IsOrigin : List Item → ℕ → Type 0
@@ -28,14 +28,14 @@ module _ (places : List Place) where
 
   -- no item began after its place
   abbrev pub AreBack : Type 0
-  AreBack = (position : ℕ) (p : Place) → place_at places position ≡ Some p → (x : Item) → Contains p.items x
+  AreBack = (position : ℕ) (p : EarleySet) → place_at places position ≡ Some p → (x : Item) → Contains p.items x
       → x.origin ≤ position
 
   -- Each place but the last is one where an item of the next place began. So the last place reaches each: an item of it
   -- began at the one before, an item of that one at the one before that, and so on to the first. A place that nothing
   -- reaches isn't there.
   abbrev pub AreLinked : Type 0
-  AreLinked = (number : ℕ) (p q : Place) → slice_get places number ≡ Some p
+  AreLinked = (number : ℕ) (p q : EarleySet) → slice_get places number ≡ Some p
       → slice_get places (number + 1) ≡ Some q → (x : Item) × Contains q.items x × (x.origin ≡ p.position)
 
   -- ---- what is kept after a new place
@@ -55,13 +55,13 @@ module _ (places : List Place) where
 
 -- The place is the last of the new ones, and the others are old ones: each where an item of a new one began, if no item
 -- began after its place, and none that the last place doesn't reach, if it was so before.
-pub record IsFollowedBy (old : List Place) (place : Place) (new : List Place) : Type 0 where
+pub record IsFollowedBy (old : List EarleySet) (place : EarleySet) (new : List EarleySet) : Type 0 where
   pub ends : slice_get new (length new - 1) ≡ Some place
   pub here : place_at new place.position ≡ Some place
-  pub only : (position : ℕ) (p : Place) → place_at new position ≡ Some p → (place_at old position ≡ Some p)
+  pub only : (position : ℕ) (p : EarleySet) → place_at new position ≡ Some p → (place_at old position ≡ Some p)
       ⊎ ((position ≡ place.position) × (p ≡ place))
   pub linked : AreLinked old → AreLinked new
   pub first : (x : Item) → Contains place.items x → IsKept old x.origin → IsKept new x.origin
-  pub closed : AreBack old → (position : ℕ) (p : Place) → place_at new position ≡ Some p
+  pub closed : AreBack old → (position : ℕ) (p : EarleySet) → place_at new position ≡ Some p
       → place_at old position ≡ Some p
       → (x : Item) → Contains p.items x → IsKept old x.origin → IsKept new x.origin

@@ -9,7 +9,7 @@ use Rattle.jm_grammar.specs.Rounds.{has_bit}
 use Rattle.jm_earley.specs.declared.rule.Rule.{Rule}
 use Rattle.jm_earley.specs.declared.letter_set.LetterSet.{LetterSet}
 use Rattle.jm_earley.specs.Rules.{only, has, no_rule, meets}
-use Rattle.jm_earley.specs.Futures.{DerivesLetters}
+use Rattle.jm_earley.specs.Continuations.{DerivesLetters}
 
 -- the set has the nonterminals that spell a word of its letters, and those that spell one of one or more
 pub record IsExact (productions : List Production) (set : LetterSet) : Type 0 where

@@ -4,16 +4,16 @@ ghost use Rattle.jm_grammar.specs.declared.grammar.GrammarSymbol.{GrammarSymbol}
 ghost use Rattle.jm_grammar.specs.Grammars.{IsSmall, IsSmallSymbol, IsSmallProduction};
 ghost use Rattle.jm_grammar.specs.Meanings.{IsWord, Derives, IsHopeless};
 ghost use Rattle.jm_earley.specs.Items.{symbol_after, finished_left, IsWhole};
-ghost use Rattle.jm_earley.specs.declared.place.Place.{Place};
+ghost use Rattle.jm_earley.specs.declared.earley_set.EarleySet.{EarleySet};
 ghost use Rattle.jm_earley.specs.Kept.{IsSorted};
-ghost use Rattle.jm_earley.specs.Waiting.{AreWaiting};
+ghost use Rattle.jm_earley.specs.AwaitIndex.{AreWaiting};
 ghost use Rattle.jm_earley.specs.Charts.{AreBelow, IsChartOf, IsChartWith, IsPlaceWith};
-ghost use Rattle.jm_earley.specs.Places.{IsAliveFor};
+ghost use Rattle.jm_earley.specs.EarleySets.{IsAliveFor};
 
+use crate::continuation::{Continuations, is_hopeless};
 use crate::dead::DeadSets;
-use crate::future::{Futures, is_hopeless};
+use crate::earley_set::{EarleySet, EarleySets};
 use crate::item::Item;
-use crate::place::{Place, Places};
 use crate::set::ItemSet;
 use jm_events::EventTable;
 use jm_grammar::{Grammar, GrammarSymbol, Production};
@@ -49,7 +49,7 @@ impl Model for Charts {
 /// them. Contracts see it as its `ChartDefinition`, which stands for a word by `IsChartOf`.
 #[derive(Drop)]
 pub struct Chart {
-    places: Places,
+    places: EarleySets,
 }
 
 impl Model for Chart {
@@ -99,7 +99,7 @@ impl Charts {
         let alloc = *self.params.allocator();
         let mut first = ItemSet::new(alloc);
         self.begin_productions(&mut first, 0, self.grammar.start())?;
-        let earlier = Places::new(alloc);
+        let earlier = EarleySets::new(alloc);
         let chart = self.chart_with(&earlier, 0, first)?;
         Ok(chart)
     }
@@ -158,8 +158,13 @@ impl Charts {
 
 impl Charts {
     /// The chart whose last place has the items that the rules make of the first ones, after earlier places.
-    fn chart_with(&self, earlier: &Places, position: u32, first: ItemSet) -> Result<Chart, NoMemory>
-        requires { (number : ℕ) (p : Place) → slice_get earlier.now number ≡ Some p → p.position < position }
+    fn chart_with(
+        &self,
+        earlier: &EarleySets,
+        position: u32,
+        first: ItemSet,
+    ) -> Result<Chart, NoMemory>
+        requires { (number : ℕ) (p : EarleySet) → slice_get earlier.now number ≡ Some p → p.position < position }
         ensures { AreWaiting self.now.grammar earlier.now
             → IfOk result (IsChartWith self.now earlier.now position first) }
     {
@@ -170,13 +175,24 @@ impl Charts {
     }
 
     /// The place with these items, after earlier places.
-    fn place_with(&self, earlier: &Places, position: u32, items: ItemSet) -> Result<Place, NoMemory>
+    fn place_with(
+        &self,
+        earlier: &EarleySets,
+        position: u32,
+        items: ItemSet,
+    ) -> Result<EarleySet, NoMemory>
         ensures { IfOk result (IsPlaceWith self.now earlier.now position items) }
     {
         let alloc = *self.params.allocator();
         let waiting = self.waiting(alloc, items.as_slice())?;
-        let futures = Futures::new(alloc, &self.grammar, &self.dead, items.as_slice(), earlier)?;
-        Ok(Place {
+        let futures = Continuations::new(
+            alloc,
+            &self.grammar,
+            &self.dead,
+            items.as_slice(),
+            earlier,
+        )?;
+        Ok(EarleySet {
             position,
             items,
             waiting,
@@ -271,7 +287,7 @@ fn left_at_end(production: &Production, place: u8) -> Option<u8>
 
 impl Chart {
     /// The last place.
-    fn last(&self) -> &Place
+    fn last(&self) -> &EarleySet
         ensures ends { slice_get self.now.places (length self.now.places - 1) ≡ Some result.now }
         ensures sorted { IsSorted self.now.places }
     {

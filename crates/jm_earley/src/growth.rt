@@ -5,11 +5,11 @@ ghost use Rattle.jm_grammar.specs.Meanings.{Derives};
 ghost use Rattle.jm_earley.specs.declared.item.Item.{Item};
 ghost use Rattle.jm_earley.specs.Items.{symbol_after, advanced};
 ghost use Rattle.jm_earley.specs.Growth.{Grows, IsAdvancedOver, AreAdvancedOver, IsPrediction, ArePredicted, IsPredictedSet, IsWorked, IsClosure};
-ghost use Rattle.jm_earley.specs.Waiting.{AreWaiting, IsStepOver};
+ghost use Rattle.jm_earley.specs.AwaitIndex.{AreWaiting, IsStepOver};
 
 use crate::chart::Charts;
+use crate::earley_set::EarleySets;
 use crate::item::{Item, advanced};
-use crate::place::Places;
 use crate::set::ItemSet;
 use jm_grammar::GrammarSymbol;
 use jm_model::NoMemory;
@@ -25,7 +25,7 @@ impl Charts {
     /// The items that the rules make of the first ones, at a place after those kept.
     pub(crate) fn close(
         &self,
-        kept: &Places,
+        kept: &EarleySets,
         place: u32,
         first: ItemSet,
     ) -> Result<ItemSet, NoMemory>
@@ -48,7 +48,7 @@ impl Charts {
     /// Adds what the rules make of an item.
     fn work(
         &self,
-        kept: &Places,
+        kept: &EarleySets,
         place: u32,
         growth: &mut Growth,
         item: Item,
@@ -123,7 +123,7 @@ impl Charts {
     }
 
     /// Adds the items that awaited the left side of a finished item, advanced over it.
-    fn complete(&self, kept: &Places, set: &mut ItemSet, item: Item) -> Result<(), NoMemory>
+    fn complete(&self, kept: &EarleySets, set: &mut ItemSet, item: Item) -> Result<(), NoMemory>
         requires { symbol_after self.now.grammar item ≡ None }
         ensures grows { (place : ℕ) → OnOk result
             (Grows (IsStepOver self.now.grammar kept.now place item) set.old set.new) }

@@ -7,17 +7,17 @@
 //! where items of the kept places began: what a parser with a stack would keep.
 #![tactic(auto)]
 
+mod await_index;
 mod chart;
+mod continuation;
 mod dead;
-mod future;
+mod earley_set;
 mod growth;
 mod item;
 mod letter_set;
 mod link;
-mod place;
 mod rule;
 mod set;
 mod shared;
-mod waiting;
 
 pub use chart::{Chart, Charts};

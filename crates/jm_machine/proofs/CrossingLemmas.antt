@@ -9,8 +9,8 @@ use Rattle.jm_machine.specs.contracts.formula.Formula as Formula
 use Rattle.jm_machine.specs.contracts.prepared_engine.PreparedEngine as PreparedEngine
 use Rattle.jm_events.specs.contracts.names.Names as Names
 use Rattle.jm_goal.specs.contracts.goal.Goal as Goal
-use Rattle.jm_machine.specs.contracts.table_outlook.TableOutlook as TableOutlook
-use Rattle.jm_machine.specs.contracts.grammar_outlook.GrammarOutlook as GrammarOutlook
+use Rattle.jm_machine.specs.contracts.table_liveness.TableLiveness as TableLiveness
+use Rattle.jm_machine.specs.contracts.grammar_liveness.GrammarLiveness as GrammarLiveness
 use Rattle.jm_table.specs.contracts.table.Table as Table
 use Rattle.jm_earley.specs.contracts.chart.Charts as Charts
 use Rattle.jm_earley.specs.contracts.chart.Chart as Chart
@@ -33,18 +33,18 @@ table_crosses = search (crosses, maps, sendable) depth 100 fits 20000
 charts_crosses : IsSend Charts.the_field.row
 charts_crosses = search (crosses, maps, sendable) depth 100 fits 20000
 
-table_outlook_crosses : IsSend TableOutlook.the_row
-table_outlook_crosses = search (crosses, maps, sendable) depth 100 fits 20000
+table_liveness_crosses : IsSend TableLiveness.the_row
+table_liveness_crosses = search (crosses, maps, sendable) depth 100 fits 20000
 
 chart_crosses : IsSend Chart.the_row
 chart_crosses = search (crosses, maps, sendable) depth 100 fits 20000
 
-grammar_outlook_crosses : IsSend GrammarOutlook.the_row
-grammar_outlook_crosses = search (chart_crosses, crosses, maps, sendable) depth 100 fits 20000
+grammar_liveness_crosses : IsSend GrammarLiveness.the_row
+grammar_liveness_crosses = search (chart_crosses, crosses, maps, sendable) depth 100 fits 20000
 
 engine_crosses : IsSend PreparedEngine.the_field.row
 engine_crosses =
-    search (table_crosses, charts_crosses, table_outlook_crosses, grammar_outlook_crosses, crosses, maps, sendable)
+    search (table_crosses, charts_crosses, table_liveness_crosses, grammar_liveness_crosses, crosses, maps, sendable)
     depth 100 fits 20000
 
 property_crosses : IsSend Property.the_row
@@ -72,18 +72,18 @@ table_shared = search (crosses, maps, sendable) depth 100 fits 20000
 charts_shared : IsSync Charts.the_field.row
 charts_shared = search (crosses, maps, sendable) depth 100 fits 20000
 
-table_outlook_shared : IsSync TableOutlook.the_row
-table_outlook_shared = search (crosses, maps, sendable) depth 100 fits 20000
+table_liveness_shared : IsSync TableLiveness.the_row
+table_liveness_shared = search (crosses, maps, sendable) depth 100 fits 20000
 
 chart_shared : IsSync Chart.the_row
 chart_shared = search (crosses, maps, sendable) depth 100 fits 20000
 
-grammar_outlook_shared : IsSync GrammarOutlook.the_row
-grammar_outlook_shared = search (chart_shared, crosses, maps, sendable) depth 100 fits 20000
+grammar_liveness_shared : IsSync GrammarLiveness.the_row
+grammar_liveness_shared = search (chart_shared, crosses, maps, sendable) depth 100 fits 20000
 
 engine_shared : IsSync PreparedEngine.the_field.row
 engine_shared =
-    search (table_shared, charts_shared, table_outlook_shared, grammar_outlook_shared, crosses, maps, sendable)
+    search (table_shared, charts_shared, table_liveness_shared, grammar_liveness_shared, crosses, maps, sendable)
     depth 100 fits 20000
 
 property_shared : IsSync Property.the_row

@@ -23,7 +23,7 @@ use Rattle.jm_machine.specs.Engines.{EngineHolds}
 use Rattle.jm_machine.specs.PropertyMeanings.{PropertyRules, Resets, property_meaning, is_failing_grammar}
 use Rattle.jm_machine.specs.CompiledProperties.{CompiledProperty, IsCompiledProperty, IsHandledBy, may_begin}
 use Rattle.jm_machine.specs.Places.{IsPlaceAfter, IsBegun, Stands}
-use Rattle.jm_machine.specs.Outlooks.{CanHitFrom}
+use Rattle.jm_machine.specs.Liveness.{CanHitFrom}
 use Rattle.jm_machine.proofs.OptionLemmas.{looked_up}
 use Rattle.jm_machine.proofs.GoalLemmas.{one_is_set}
 use Rattle.jm_machine.proofs.PlaceLemmas.{push_word, no_letters}

@@ -29,7 +29,7 @@ use Rattle.jm_machine.specs.Rests.{IsRest}
 use Rattle.jm_machine.specs.PropertyMeanings.{PropertyRules, Resets, property_meaning, is_failing_grammar}
 use Rattle.jm_machine.specs.CompiledProperties.{CompiledProperty, IsCompiledProperty, IsGoalOf, IsHandledBy, definition_of, may_begin}
 use Rattle.jm_machine.specs.Places.{IsPlaceAfter, IsBegun, Stands}
-use Rattle.jm_machine.specs.Outlooks.{StateFacts, ParseFacts, AreFactsOf, IsEndingLetter, IsPlainState, IsPlainEntry, CanHitFrom, IsLeftOf, CanMatch}
+use Rattle.jm_machine.specs.Liveness.{StateFacts, ParseFacts, AreFactsOf, IsEndingLetter, IsPlainState, IsPlainEntry, CanHitFrom, IsLeftOf, CanMatch}
 use Rattle.jm_machine.specs.Known.{IsKnown}
 use Rattle.jm_machine.proofs.OptionLemmas.{looked_up}
 use Rattle.jm_machine.proofs.GoalLemmas.{begins_as_listed, number_in, number_set}
@@ -39,7 +39,7 @@ use Rattle.jm_machine.proofs.PropertyLemmas.{handled_told, hit_handled, run_hits
 use Rattle.jm_machine.proofs.CutLemmas.{not_so, cut_words, can_hit_run, trap_quiet, stood_more, stood_first}
 use Rattle.jm_machine.proofs.ParseLemmas.{failing_cut, matching_cut}
 use Rattle.jm_machine.proofs.FamilyLemmas.{family_is}
-use Rattle.jm_machine.proofs.OutlookLemmas.{no_bit_of_zero, mask_at}
+use Rattle.jm_machine.proofs.LivenessLemmas.{no_bit_of_zero, mask_at}
 
 -- ---- a table
 

@@ -14,7 +14,7 @@ pub mod CutLemmas
 pub mod QuietLemmas
 pub mod ParseLemmas
 pub mod FamilyLemmas
-pub mod OutlookLemmas
+pub mod LivenessLemmas
 pub mod KnownLemmas
 pub mod LawLemmas
 pub mod RefusalLemmas

@@ -16,7 +16,7 @@ use Rattle.jm_grammar.specs.Categories as categories
 use Rattle.jm_grammar.specs.Categories.{GrammarHolds}
 use Rattle.jm_earley.specs.Charts.{ChartsDefinition}
 use Rattle.jm_earley.specs.DeadSets as charts
-use Rattle.jm_earley.specs.Places.{IsAliveFor}
+use Rattle.jm_earley.specs.EarleySets.{IsAliveFor}
 use Rattle.jm_machine.specs.declared.formula.Formula.{Formula}
 use Rattle.jm_machine.specs.declared.formula.Formula.TheVariants.{Machine, Regular, RegularSuffix, Temporal, Grammatical, GrammaticalSuffix}
 use Rattle.jm_machine.specs.declared.engine.Engine.TheVariants.{Parses}
@@ -27,7 +27,7 @@ use Rattle.jm_machine.specs.Rests.{IsRest}
 use Rattle.jm_machine.specs.PropertyMeanings.{PropertyRules, IsNamedCategory, IsInCategory, Resets, property_meaning, is_failing_grammar}
 use Rattle.jm_machine.specs.CompiledProperties.{CompiledProperty, IsCompiledProperty, IsHandledBy, may_begin}
 use Rattle.jm_machine.specs.Places.{IsPlaceAfter, IsBegun}
-use Rattle.jm_machine.specs.Outlooks.{GoesOn, BeginsWith, CanMatch}
+use Rattle.jm_machine.specs.Liveness.{GoesOn, BeginsWith, CanMatch}
 use Rattle.jm_machine.proofs.PropertyLemmas.{handled_told, some_within, created_later}
 use Rattle.jm_machine.proofs.CutLemmas.{all_places, all_recursion, word_there, trap_quiet, cut_words}
 use Rattle.jm_machine.proofs.QuietLemmas.{IsPlain, never_plainly}

@@ -10,7 +10,7 @@ use Rattle.jm_machine.specs.declared.prepared_engine.PreparedEngine.TheVariants.
 use Rattle.jm_machine.specs.Formulas.{is_grammar}
 use Rattle.jm_machine.specs.PropertyMeanings.{PropertyRules, is_failing_grammar}
 use Rattle.jm_machine.specs.Engines.{is_parsing, HasParams}
-use Rattle.jm_machine.specs.Outlooks.{AreFactsOf, AreFirstCharts}
+use Rattle.jm_machine.specs.Liveness.{AreFactsOf, AreFirstCharts}
 
 -- what runs the formula, without what may still follow
 abbrev pub engine_of : PreparedEngine → Engine

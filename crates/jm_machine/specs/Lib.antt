@@ -10,7 +10,7 @@ pub mod Refusals
 pub mod Engines
 pub mod CompiledProperties
 pub mod Places
-pub mod Outlooks
+pub mod Liveness
 pub mod Handlings
 pub mod Known
 pub mod RuleSets

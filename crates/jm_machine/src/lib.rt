@@ -12,7 +12,7 @@ mod configuration;
 mod engine;
 mod formula;
 mod goal;
-mod grammar_outlook;
+mod grammar_liveness;
 mod handlers;
 mod handling;
 mod laws;
@@ -21,7 +21,7 @@ mod place;
 mod prepared_engine;
 mod property;
 mod rules;
-mod table_outlook;
+mod table_liveness;
 mod union;
 
 pub use configuration::Configuration;

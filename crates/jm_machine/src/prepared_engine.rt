@@ -5,9 +5,9 @@ ghost use Rattle.jm_machine.specs.Engines.{letters_of_engine, categories_of_engi
 ghost use Rattle.jm_machine.specs.Known.{engine_of, IsPrepared};
 
 use crate::engine::Engine;
-use crate::grammar_outlook::GrammarOutlook;
+use crate::grammar_liveness::GrammarLiveness;
 use crate::place::Place;
-use crate::table_outlook::TableOutlook;
+use crate::table_liveness::TableLiveness;
 use jm_earley::Charts;
 use jm_events::EventTable;
 use jm_goal::Goal;
@@ -21,12 +21,12 @@ pub(crate) enum PreparedEngine {
     /// A table, with what may follow each of its states.
     Table {
         table: Table,
-        outlook: TableOutlook,
+        liveness: TableLiveness,
     },
     /// The charts of a grammar, with what may follow each chart.
     Grammar {
         charts: Charts,
-        outlook: GrammarOutlook,
+        liveness: GrammarLiveness,
     },
 }
 
@@ -43,16 +43,16 @@ impl PreparedEngine {
         requires letters { letters_of_engine engine ≡ length events.now.events }
         requires groups { All (λ group. group < categories_of_engine engine) goal.now.groups }
         ensures engine { IfOk result (λ prepared. engine_of prepared ≡ engine) }
-        ensures outlook { IfOk result (IsPrepared goal.now events.now failing) }
+        ensures liveness { IfOk result (IsPrepared goal.now events.now failing) }
     {
         match engine {
             Engine::States(table) => {
-                let outlook = TableOutlook::new(alloc, &table, goal, events)?;
-                Ok(PreparedEngine::Table { table, outlook })
+                let liveness = TableLiveness::new(alloc, &table, goal, events)?;
+                Ok(PreparedEngine::Table { table, liveness })
             }
             Engine::Parses(charts) => {
-                let outlook = GrammarOutlook::new(alloc, &charts, events.letters(), failing)?;
-                Ok(PreparedEngine::Grammar { charts, outlook })
+                let liveness = GrammarLiveness::new(alloc, &charts, events.letters(), failing)?;
+                Ok(PreparedEngine::Grammar { charts, liveness })
             }
         }
     }

@@ -18,7 +18,7 @@ ghost use Rattle.jm_machine.specs.declared.place.Place.TheVariants as place;
 use crate::engine::Engine;
 use crate::formula::Formula;
 use crate::goal::{goal_of, may_begin};
-use crate::grammar_outlook::{Parser, handlers_of_chart};
+use crate::grammar_liveness::{Parser, handlers_of_chart};
 use crate::handling::Handling;
 use crate::place::Place;
 use crate::prepared_engine::{PreparedEngine, next_state};
@@ -137,7 +137,7 @@ impl Property {
         ensures none { is_grammar self.now.definition.formula ≡ true → IfOk result (λ family. family ≡ None) }
     {
         match &self.engine {
-            PreparedEngine::Table { outlook, .. } => Ok(Some(outlook.family(letter)?)),
+            PreparedEngine::Table { liveness, .. } => Ok(Some(liveness.family(letter)?)),
             PreparedEngine::Grammar { .. } => Ok(None),
         }
     }
@@ -160,7 +160,7 @@ impl Property {
             PreparedEngine::Table { table, .. } => {
                 Ok(Place::State(next_state(table, table.start(), letter)))
             }
-            PreparedEngine::Grammar { charts, outlook } => outlook.first(charts, letter),
+            PreparedEngine::Grammar { charts, liveness } => liveness.first(charts, letter),
         }
     }
 
@@ -202,7 +202,7 @@ impl Property {
             IsBitSet result k ↔ IsHit (property_meaning self.now.definition) w k }
     {
         match &self.engine {
-            PreparedEngine::Table { outlook, .. } => outlook.hits(state),
+            PreparedEngine::Table { liveness, .. } => liveness.hits(state),
             PreparedEngine::Grammar { .. } => 0,
         }
     }
@@ -214,7 +214,7 @@ impl Property {
             IsTrue result ↔ IsCutWord (property_meaning self.now.definition) w dead }
     {
         match &self.engine {
-            PreparedEngine::Table { outlook, .. } => !outlook.is_alive(state, dead),
+            PreparedEngine::Table { liveness, .. } => !liveness.is_alive(state, dead),
             PreparedEngine::Grammar { .. } => false,
         }
     }
@@ -228,7 +228,7 @@ impl Property {
             IsBitSet result e → IsHit (property_meaning self.now.definition) (w ++ e ∷ []) k → ⊥ }
     {
         match &self.engine {
-            PreparedEngine::Table { outlook, .. } => outlook.idle(state),
+            PreparedEngine::Table { liveness, .. } => liveness.idle(state),
             PreparedEngine::Grammar { .. } => 0,
         }
     }
@@ -242,7 +242,7 @@ impl Property {
             IsBitSet result e → IsCutWord (property_meaning self.now.definition) (w ++ e ∷ []) 0 }
     {
         match &self.engine {
-            PreparedEngine::Table { outlook, .. } => outlook.ending(state),
+            PreparedEngine::Table { liveness, .. } => liveness.ending(state),
             PreparedEngine::Grammar { .. } => 0,
         }
     }
@@ -255,7 +255,7 @@ impl Property {
             (property_meaning self.now.definition) (IsPlaceAfter self.now) letter.0 (place.State k) }
     {
         match &self.engine {
-            PreparedEngine::Table { outlook, .. } => outlook.plain_states(letter),
+            PreparedEngine::Table { liveness, .. } => liveness.plain_states(letter),
             PreparedEngine::Grammar { .. } => &[],
         }
     }
@@ -266,7 +266,7 @@ impl Property {
             (property_meaning self.now.definition) (IsPlaceAfter self.now) mask (place.State k) }
     {
         match &self.engine {
-            PreparedEngine::Table { outlook, .. } => outlook.endings(),
+            PreparedEngine::Table { liveness, .. } => liveness.endings(),
             PreparedEngine::Grammar { .. } => &[],
         }
     }
@@ -318,15 +318,15 @@ impl Property {
             IsTrue result ↔ IsCutWord (property_meaning self.now.definition) w dead }
     {
         match &self.engine {
-            PreparedEngine::Table { outlook, .. } => !outlook.can_hit(place, dead),
-            PreparedEngine::Grammar { charts, outlook } => {
+            PreparedEngine::Table { liveness, .. } => !liveness.can_hit(place, dead),
+            PreparedEngine::Grammar { charts, liveness } => {
                 let reset = self.is_reset(place);
                 let parser = Parser {
                     charts,
                     goal: &self.goal,
                     masks: self.masks.as_slice(),
                 };
-                outlook.is_cut(&parser, place, reset, dead)
+                liveness.is_cut(&parser, place, reset, dead)
             }
         }
     }
@@ -339,7 +339,7 @@ impl Property {
         ensures rules { IsCompiledProperty self.now }
     {
         match (&self.engine, place) {
-            (PreparedEngine::Table { outlook, .. }, Place::State(state)) => outlook.hits(*state),
+            (PreparedEngine::Table { liveness, .. }, Place::State(state)) => liveness.hits(*state),
             (PreparedEngine::Grammar { charts, .. }, Place::Parse(chart)) => {
                 handlers_of_chart(&self.goal, charts, chart)
             }
@@ -420,7 +420,7 @@ impl Monitor for Property {
     #[inline(always)]
     fn cut(&self, state: &Place, dead: u8) -> bool {
         match &self.engine {
-            PreparedEngine::Table { outlook, .. } => !outlook.can_hit(state, dead),
+            PreparedEngine::Table { liveness, .. } => !liveness.can_hit(state, dead),
             PreparedEngine::Grammar { .. } => self.is_cut(state, dead),
         }
     }
@@ -439,7 +439,7 @@ impl Monitor for Property {
         match (state, &self.engine) {
             (Place::State(state), _) => self.ending_of_state(*state),
             (Place::Trap, PreparedEngine::Table { .. }) => u32::MAX,
-            (Place::Start, PreparedEngine::Table { outlook, .. }) => outlook.first_ending(),
+            (Place::Start, PreparedEngine::Table { liveness, .. }) => liveness.first_ending(),
             _ => 0,
         }
     }

@@ -100,7 +100,7 @@ impl<M: Monitor> Event<'_, M> {
         let state = self.rules.next(&base.state, self.letter)?;
         let dead = dead_mask(self.objects, &instance);
         let stays = !self.rules.cut(&state, dead);
-        if self.is_lost(&state, stays) {
+        if self.can_never_fire(&state, stays) {
             return Ok(None);
         }
         Ok(Some(Move {
@@ -126,8 +126,8 @@ impl<M: Monitor> Event<'_, M> {
                 .cut(&base.state, dead_mask(self.objects, &base.instance))
     }
 
-    /// Whether a new instance hits nothing and is cut at once.
-    fn is_lost(&self, state: &M::State, stays: bool) -> bool
+    /// Whether a new instance can never fire: it hits nothing and is cut at once.
+    fn can_never_fire(&self, state: &M::State, stays: bool) -> bool
         ensures quiet { IsTrue result → (w : List ℕ) → M.StandsFor self.now.rules.now state.now w
             → (k : ℕ) → IsHit (M.meaning (M.definition self.now.rules.now)) w k → ⊥ }
         ensures cut { IsTrue result → stays ≡ false }

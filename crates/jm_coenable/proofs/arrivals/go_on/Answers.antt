@@ -9,8 +9,8 @@ loop-state-preserved c =
     let t = c.args.table.now in let g = c.args.goal.now in
     part_then (AreArrivals t g) (λ (sets : List (List ℕ)). (state : ℕ) → state < c.loop-state.state → IsSpreadState t g state sets)
     (IsSpreadState t g c.loop-state.state) (λ (sets : List (List ℕ)). (state : ℕ) → state < c.loop-state.state + 1 → IsSpreadState t g state sets)
-    c.args.arrivals.now.items c.loop-state.arrivals.items c.spread-more.new.arrivals.items c.loop-state.changed c.spread-more.result c.loop-state.invariant c.spread-more.ensures
-    (λ before here. below_more (λ (state : ℕ). IsSpreadState t g state c.spread-more.new.arrivals.items) c.loop-state.state before here)
+    c.args.arrivals.now.items c.loop-state.arrivals.items c.propagate-more.new.arrivals.items c.loop-state.changed c.propagate-more.result c.loop-state.invariant c.propagate-more.ensures
+    (λ before here. below_more (λ (state : ℕ). IsSpreadState t g state c.propagate-more.new.arrivals.items) c.loop-state.state before here)
 
 pub returns : goal.returns
 returns c =

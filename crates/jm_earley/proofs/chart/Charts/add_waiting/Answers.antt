@@ -4,7 +4,7 @@ use Rattle.jm_grammar.specs.declared.grammar.GrammarSymbol.{GrammarSymbol}
 use Rattle.jm_grammar.specs.declared.grammar.GrammarSymbol.TheVariants.{Nonterminal}
 use Rattle.jm_earley.specs.Items.{symbol_after}
 use Rattle.jm_earley.proofs.WorkLemmas.{on_ok_both}
-use Rattle.jm_earley.proofs.WaitingLemmas.{waiting_same, waiting_more, not_a_letter}
+use Rattle.jm_earley.proofs.AwaitIndexLemmas.{waiting_same, waiting_more, not_a_letter}
 use Rattle.jm_earley.proofs.chart.Charts.add_waiting.Goals as goal
 
 pub returns-in-Some-Nonterminal : goal.returns-in-Some-Nonterminal

@@ -1,5 +1,5 @@
 use Rattle.std.proofs.Common.{◌↔◌, IsTrue, sym, subst}
-use Rattle.jm_earley.specs.Places.{IsAliveFor}
+use Rattle.jm_earley.specs.EarleySets.{IsAliveFor}
 use Rattle.jm_earley.specs.Charts.{ChartsDefinition, ChartDefinition, IsChartOf}
 use Rattle.jm_earley.proofs.ChartLemmas.{last_place}
 use Rattle.jm_earley.proofs.chart.Charts.alive.Goals as goal

@@ -1,7 +1,7 @@
 use Rattle.std.proofs.Common.{◌≡◌, Some, None, slice_get, sym, arith}
 use Rattle.jm_earley.specs.declared.item.Item.{Item}
 use Rattle.jm_earley.specs.Growth.{IsStep, given}
-use Rattle.jm_earley.specs.Waiting.{AreWaiting, IsStepOver}
+use Rattle.jm_earley.specs.AwaitIndex.{AreWaiting, IsStepOver}
 use Rattle.jm_earley.proofs.GrowthLemmas.{grows_contains, grows_weaker}
 use Rattle.jm_earley.proofs.SetLemmas.{no_bits}
 use Rattle.jm_earley.proofs.WorkLemmas.{one_worked, one_made, all_worked}

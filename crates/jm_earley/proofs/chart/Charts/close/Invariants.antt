@@ -1,7 +1,7 @@
 use Rattle.std.proofs.Common.{ℕ, ◌<◌, ◌-◌, ◌^◌, ◌≡◌, Some, slice_get, Contains}
 use Rattle.jm_earley.specs.declared.item.Item.{Item}
 use Rattle.jm_earley.specs.Growth.{IsPredictedSet, IsWorked, IsMade}
-use Rattle.jm_earley.specs.Waiting.{AreWaiting}
+use Rattle.jm_earley.specs.AwaitIndex.{AreWaiting}
 use Rattle.jm_earley.proofs.chart.Charts.close.Given as goal
 
 abbrev pub invariant-loop-item : goal.invariant-loop-item

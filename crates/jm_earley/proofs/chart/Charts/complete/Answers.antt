@@ -3,7 +3,7 @@ use Rattle.std.proofs.lemmas.Result.{on_ok_weaker}
 use Rattle.jm_grammar.specs.declared.grammar.GrammarSymbol.TheVariants.{Nonterminal}
 use Rattle.jm_earley.specs.declared.item.Item.{Item}
 use Rattle.jm_earley.specs.Growth.{Grows, IsAdvancedOver, AreAdvancedOver}
-use Rattle.jm_earley.proofs.WaitingLemmas.{completes_over, completes_worked}
+use Rattle.jm_earley.proofs.AwaitIndexLemmas.{completes_over, completes_worked}
 use Rattle.jm_earley.proofs.chart.Charts.complete.Goals as goal
 
 pub returns-clause-grows : goal.returns-clause-grows

@@ -1,7 +1,7 @@
 use Rattle.std.proofs.Common.{List, sym, subst}
 use Rattle.jm_earley.specs.declared.item.Item.{Item}
 use Rattle.jm_earley.specs.Items.{IsItemSet}
-use Rattle.jm_earley.specs.Places.{AllSpell}
+use Rattle.jm_earley.specs.EarleySets.{AllSpell}
 use Rattle.jm_earley.specs.Charts.{ChartsDefinition}
 use Rattle.jm_earley.proofs.ChartLemmas.{last_place}
 use Rattle.jm_earley.proofs.chart.Charts.fails.Goals as goal

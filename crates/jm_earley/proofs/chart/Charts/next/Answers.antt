@@ -1,10 +1,10 @@
 use Rattle.std.proofs.Common.{ℕ, ◌≡◌, ◌<◌, ◌+◌, List, [], ◌∷◌, ◌++◌, Some, length, slice_get, sym, subst, arith}
 use Rattle.std.proofs.lemmas.Result.{IfOk-weaker}
 use Rattle.jm_earley.specs.declared.item.Item.{Item}
-use Rattle.jm_earley.specs.declared.place.Place.{Place}
+use Rattle.jm_earley.specs.declared.earley_set.EarleySet.{EarleySet}
 use Rattle.jm_grammar.specs.declared.grammar.GrammarSymbol.TheVariants.{Letter}
 use Rattle.jm_earley.specs.Growth.{Grows, IsAdvancedOver, AreAdvancedOver}
-use Rattle.jm_earley.specs.Waiting.{AreWaiting}
+use Rattle.jm_earley.specs.AwaitIndex.{AreWaiting}
 use Rattle.jm_earley.specs.Charts.{ChartsDefinition, ChartDefinition, IsChartOf, IsChartWith}
 use Rattle.jm_earley.proofs.KeptLemmas.{last_behind, number_at}
 use Rattle.jm_earley.proofs.ChartLemmas.{grown_chart, lists_are, last_at}
@@ -14,7 +14,7 @@ pub chart_with-requires : goal.chart_with-requires
 chart_with-requires c =
     let old : ChartDefinition = c.args.chart.now in
     let last = c.last-last.result.now in
-    subst (λ (d : ChartDefinition). (number : ℕ) (p : Place) → slice_get d.places number ≡ Some p → p.position < last.position + 1) (sym c.chart.view_is)
+    subst (λ (d : ChartDefinition). (number : ℕ) (p : EarleySet) → slice_get d.places number ≡ Some p → p.position < last.position + 1) (sym c.chart.view_is)
     (last_behind old.places c.last-last.ensures.sorted last c.last-last.ensures.ends)
 
 pub returns : goal.returns

@@ -1,8 +1,8 @@
 use Rattle.std.proofs.Common.{ℕ, List, refl, sym, subst}
 use Rattle.jm_earley.specs.declared.item.Item.{Item}
 use Rattle.jm_earley.specs.Items.{IsItemSet}
-use Rattle.jm_earley.specs.Waiting.{IsWaiting}
-use Rattle.jm_earley.specs.Places.{AreEarlier, AreFutures}
+use Rattle.jm_earley.specs.AwaitIndex.{IsWaiting}
+use Rattle.jm_earley.specs.EarleySets.{AreEarlier, AreFutures}
 use Rattle.jm_earley.specs.Charts.{ChartsDefinition}
 use Rattle.jm_earley.proofs.chart.Charts.place_with.Goals as goal
 

@@ -2,8 +2,8 @@ use Rattle.std.proofs.Common.{List, [], ap, slice_index_or, ◌≡◌, Some, sli
 use Rattle.std.proofs.lemmas.List.{take_all}
 use Rattle.std.proofs.lemmas.Option.{slice_get-get_or}
 use Rattle.jm_earley.specs.declared.item.Item.{Item}
-use Rattle.jm_earley.specs.Waiting.{IsWaiting}
-use Rattle.jm_earley.proofs.WaitingLemmas.{waiting_none, waiting_next}
+use Rattle.jm_earley.specs.AwaitIndex.{IsWaiting}
+use Rattle.jm_earley.proofs.AwaitIndexLemmas.{waiting_none, waiting_next}
 use Rattle.jm_earley.proofs.chart.Charts.waiting.Goals as goal
 
 pub loop-item-init : goal.loop-item-init

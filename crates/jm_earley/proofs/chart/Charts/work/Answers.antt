@@ -5,7 +5,7 @@ use Rattle.jm_grammar.specs.declared.grammar.GrammarSymbol.TheVariants.{Nontermi
 use Rattle.jm_earley.specs.declared.item.Item.{Item}
 use Rattle.jm_earley.specs.Items.{symbol_after}
 use Rattle.jm_earley.specs.Growth.{IsStep}
-use Rattle.jm_earley.specs.Waiting.{IsStepOver}
+use Rattle.jm_earley.specs.AwaitIndex.{IsStepOver}
 use Rattle.jm_earley.proofs.GrowthLemmas.{grows_weaker}
 use Rattle.jm_earley.proofs.WorkLemmas.{IsSkip, nonterminal_grows, nonterminal_worked, letter_worked, predicted_set_grows, on_ok_both}
 use Rattle.jm_earley.proofs.chart.Charts.work.Goals as goal

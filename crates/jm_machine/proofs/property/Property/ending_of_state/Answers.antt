@@ -8,7 +8,7 @@ returns-in-Table-clause-quiet c =
     let known = rw c.in-Table.is at c.self.invariant.2 in
     rw (← c.self.view_is, c.in-Table.is)
     (λ w h e k bit. known_quiet i.masks.items i.formula i.handlers i.goal c.self.invariant.0 c.in-Table.table
-    c.in-Table.outlook set known c.args.state e c.ending.result c.ending.ensures bit w h k)
+    c.in-Table.liveness set known c.args.state e c.ending.result c.ending.ensures bit w h k)
 
 pub returns-in-Table-clause-cut : goal.returns-in-Table-clause-cut
 returns-in-Table-clause-cut c =
@@ -17,4 +17,4 @@ returns-in-Table-clause-cut c =
     let known = rw c.in-Table.is at c.self.invariant.2 in
     rw (← c.self.view_is, c.in-Table.is)
     (λ w h e bit. known_ends i.masks.items i.formula i.handlers i.goal c.self.invariant.0 c.in-Table.table
-    c.in-Table.outlook set known c.args.state e c.ending.result c.ending.ensures bit w h)
+    c.in-Table.liveness set known c.args.state e c.ending.result c.ending.ensures bit w h)

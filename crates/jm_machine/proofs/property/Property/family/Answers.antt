@@ -9,5 +9,5 @@ returns-in_ok-family-in-Table-clause-family c =
     let less = rw (← c.self.view_is) at c.requires in
     rw (← c.self.view_is)
     (λ other. known_family i.masks.items i.formula i.handlers i.goal c.self.invariant.0 c.in-Table.table
-    c.in-Table.outlook set known c.args.letter.0 c.in_ok-family-in-Table.field-0.items less c.in_ok-family-in-Table.ensures.bounded
+    c.in-Table.liveness set known c.args.letter.0 c.in_ok-family-in-Table.field-0.items less c.in_ok-family-in-Table.ensures.bounded
     c.in_ok-family-in-Table.ensures.rising c.in_ok-family-in-Table.ensures.exact)

@@ -12,7 +12,7 @@ returns-in-Table-State-clause-hits c =
     let known = rw c.in-Table-State.is-0 at c.self.invariant.2 in
     rw (← c.self.view_is, c.in-Table-State.is-1, c.in-Table-State.is-0)
     (known_hits i.masks.items i.formula i.handlers i.goal c.self.invariant.0 c.in-Table-State.table-0
-    c.in-Table-State.outlook set known c.in-Table-State.state c.hits.result c.hits.ensures)
+    c.in-Table-State.liveness set known c.in-Table-State.state c.hits.result c.hits.ensures)
 
 pub returns-in-Grammar-Parse-clause-hits : goal.returns-in-Grammar-Parse-clause-hits
 returns-in-Grammar-Parse-clause-hits c =

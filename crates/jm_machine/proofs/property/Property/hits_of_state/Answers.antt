@@ -8,7 +8,7 @@ returns-in-Table c =
     let known = rw c.in-Table.is at c.self.invariant.2 in
     rw (← c.self.view_is, c.in-Table.is)
     (known_state_hits i.masks.items i.formula i.handlers i.goal c.self.invariant.0 c.in-Table.table
-    c.in-Table.outlook set known c.args.state c.hits.result c.hits.ensures)
+    c.in-Table.liveness set known c.args.state c.hits.result c.hits.ensures)
 
 pub returns-in-Grammar : goal.returns-in-Grammar
 returns-in-Grammar c =

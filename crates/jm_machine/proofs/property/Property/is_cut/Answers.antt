@@ -8,7 +8,7 @@ returns-in-Table c =
     let known = rw c.in-Table.is at c.self.invariant.2 in
     rw (← c.self.view_is, c.in-Table.is)
     (known_cut i.masks.items i.formula i.handlers i.goal c.self.invariant.0 c.in-Table.table
-    c.in-Table.outlook set known c.args.place.now c.args.dead c.can_hit.result c.can_hit.ensures)
+    c.in-Table.liveness set known c.args.place.now c.args.dead c.can_hit.result c.can_hit.ensures)
 
 pub returns-in-Grammar : goal.returns-in-Grammar
 returns-in-Grammar c =
@@ -16,5 +16,5 @@ returns-in-Grammar c =
     let set = rw c.in-Grammar.is at c.self.invariant.1 in
     let known = rw c.in-Grammar.is at c.self.invariant.2 in
     rw (← c.self.view_is, c.in-Grammar.is)
-    (known_parse_cut i.masks.items i.formula i.handlers i.goal c.self.invariant.0 c.in-Grammar.outlook c.in-Grammar.charts set known c.args.place.now c.args.dead c.is_reset-reset.result c.is_cut.result
+    (known_parse_cut i.masks.items i.formula i.handlers i.goal c.self.invariant.0 c.in-Grammar.liveness c.in-Grammar.charts set known c.args.place.now c.args.dead c.is_reset-reset.result c.is_cut.result
     (rw (← c.self.view_is, c.in-Grammar.is) at c.is_reset-reset.ensures) c.is_cut.ensures.failing c.is_cut.ensures.matching)

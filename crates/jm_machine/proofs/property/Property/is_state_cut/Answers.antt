@@ -9,7 +9,7 @@ returns-in-Table c =
     let known = rw c.in-Table.is at c.self.invariant.2 in
     rw (← c.self.view_is, c.in-Table.is)
     (known_cut i.masks.items i.formula i.handlers i.goal c.self.invariant.0 c.in-Table.table
-    c.in-Table.outlook set known (State c.args.state) c.args.dead c.is_alive.result c.is_alive.ensures)
+    c.in-Table.liveness set known (State c.args.state) c.args.dead c.is_alive.result c.is_alive.ensures)
 
 pub returns-in-Grammar : goal.returns-in-Grammar
 returns-in-Grammar c =

@@ -8,7 +8,7 @@ returns-in-Table-clause-moves c =
     let known = rw c.in-Table.is at c.self.invariant.2 in
     rw (← c.self.view_is, c.in-Table.is)
     (known_plain i.masks.items i.formula i.handlers i.goal c.self.invariant.0 c.in-Table.table
-    c.in-Table.outlook set known c.args.letter.0 c.plain_states.result.now c.plain_states.ensures)
+    c.in-Table.liveness set known c.args.letter.0 c.plain_states.result.now c.plain_states.ensures)
 
 pub returns-in-Table-clause-rests : goal.returns-in-Table-clause-rests
 returns-in-Table-clause-rests c =
@@ -17,4 +17,4 @@ returns-in-Table-clause-rests c =
     let known = rw c.in-Table.is at c.self.invariant.2 in
     rw (← c.self.view_is, c.in-Table.is)
     (known_at_rest i.masks.items i.formula i.handlers i.goal c.self.invariant.0 c.in-Table.table
-    c.in-Table.outlook set known c.args.letter.0 c.plain_states.result.now c.plain_states.ensures)
+    c.in-Table.liveness set known c.args.letter.0 c.plain_states.result.now c.plain_states.ensures)

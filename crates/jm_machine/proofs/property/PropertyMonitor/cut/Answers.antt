@@ -8,4 +8,4 @@ returns-in-Table c =
     let known = rw c.in-Table.is at c.self.invariant.2 in
     rw (← c.self.view_is, c.in-Table.is)
     (known_cut i.masks.items i.formula i.handlers i.goal c.self.invariant.0 c.in-Table.table
-    c.in-Table.outlook set known c.args.state.now c.args.dead c.can_hit.result c.can_hit.ensures)
+    c.in-Table.liveness set known c.args.state.now c.args.dead c.can_hit.result c.can_hit.ensures)

@@ -8,7 +8,7 @@ returns-in-Start-Table-clause-quiet c =
     let known = rw c.in-Start-Table.is-1 at c.self.invariant.2 in
     rw (← c.self.view_is, c.in-Start-Table.is-0)
     (λ w h e k bit. known_first_quiet i.masks.items i.formula i.handlers i.goal c.self.invariant.0 c.in-Start-Table.table-1
-    c.in-Start-Table.outlook set known e c.first_ending.result c.first_ending.ensures bit w h k)
+    c.in-Start-Table.liveness set known e c.first_ending.result c.first_ending.ensures bit w h k)
 
 pub returns-in-Start-Table-clause-cut : goal.returns-in-Start-Table-clause-cut
 returns-in-Start-Table-clause-cut c =
@@ -17,7 +17,7 @@ returns-in-Start-Table-clause-cut c =
     let known = rw c.in-Start-Table.is-1 at c.self.invariant.2 in
     rw (← c.self.view_is, c.in-Start-Table.is-0)
     (λ w h e bit. known_first_ends i.masks.items i.formula i.handlers i.goal c.self.invariant.0 c.in-Start-Table.table-1
-    c.in-Start-Table.outlook set known e c.first_ending.result c.first_ending.ensures bit w h)
+    c.in-Start-Table.liveness set known e c.first_ending.result c.first_ending.ensures bit w h)
 
 pub returns-in-State-default-clause-quiet : goal.returns-in-State-default-clause-quiet
 returns-in-State-default-clause-quiet c = rw c.in-State-default.is-0 c.ending_of_state.ensures.quiet

@@ -2,7 +2,7 @@ use Rattle.std.proofs.Common.{◌≡◌, [], length, append-nil, sym, subst, ari
 use Rattle.jm_machine.specs.declared.place.Place.TheVariants.{Start}
 use Rattle.jm_machine.specs.Configurations.{AreAfter}
 use Rattle.jm_machine.specs.Places.{IsPlaceAfter}
-use Rattle.jm_machine.proofs.OutlookLemmas.{get_push, count_push}
+use Rattle.jm_machine.proofs.LivenessLemmas.{get_push, count_push}
 use Rattle.jm_machine.proofs.RuleLemmas.{Follows, follow_here, all_follow}
 use Rattle.jm_machine.proofs.rules.Rules.copy_of_each.Goals as goal
 

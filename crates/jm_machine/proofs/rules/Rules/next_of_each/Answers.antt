@@ -1,5 +1,5 @@
 use Rattle.std.proofs.Common.{◌≡◌, [], ◌∷◌, length, arith}
-use Rattle.jm_machine.proofs.OutlookLemmas.{get_push, count_push}
+use Rattle.jm_machine.proofs.LivenessLemmas.{get_push, count_push}
 use Rattle.jm_machine.proofs.RuleLemmas.{Follows, follow_here, all_follow}
 use Rattle.jm_machine.proofs.rules.Rules.next_of_each.Goals as goal
 

@@ -34,14 +34,14 @@ returns-then-self g c =
           (λ covered. both_ways w.covers.result w.if-not-covers.true (w.covers.ensures.1 covered)))
     ]
 
-pub returns-then-is_lost : goal.returns-then-is_lost
-returns-then-is_lost g c =
+pub returns-then-can_never_fire : goal.returns-then-can_never_fire
+returns-then-can_never_fire g c =
     let m = g.M.Monitor.meaning (g.M.Monitor.definition c.args.self.now.rules.now) in
     let Stands = g.M.Monitor.StandsFor c.args.self.now.rules.now in
     let apart = apart_by_mask _ _ (rw (c.mask-mask.ensures.value, c.mask.ensures.value) at c.if-mask.false) in
     let made : Move g.row.M-State.Denot = record { slot = None; monitor = record { instance = c.join-instance.result; state = c.in_ok-state-2.state }; stays = not c.cut-stays-2.result } in
-    inl (left_lost m Stands _ _ _ _ c.args.base.now c.join-instance.result made c.join-instance.ensures apart (advanced_next m Stands _ _ None _ _ _ _ (next_of m Stands _ _ _ _ _ _ c.cut-stays-2.result c.in_ok-state-2.ensures c.dead_mask-dead-2.ensures c.cut-stays-2.ensures)) (c.is_lost.ensures.cut c.if-is_lost.true)
-    (c.is_lost.ensures.quiet c.if-is_lost.true))
+    inl (left_lost m Stands _ _ _ _ c.args.base.now c.join-instance.result made c.join-instance.ensures apart (advanced_next m Stands _ _ None _ _ _ _ (next_of m Stands _ _ _ _ _ _ c.cut-stays-2.result c.in_ok-state-2.ensures c.dead_mask-dead-2.ensures c.cut-stays-2.ensures)) (c.can_never_fire.ensures.cut c.if-can_never_fire.true)
+    (c.can_never_fire.ensures.quiet c.if-can_never_fire.true))
 
 pub returns-then-mask : goal.returns-then-mask
 returns-then-mask g c =

@@ -1,6 +1,0 @@
-use Rattle.std.proofs.Common.{ℕ, ◌<◌}
-use Rattle.jm_machine.specs.Outlooks.{BeginsWith}
-use Rattle.jm_machine.proofs.grammar_outlook.GrammarOutlook.can_begin.Given as goal
-
-abbrev pub invariant-loop-letter : goal.invariant-loop-letter
-invariant-loop-letter l = (e : ℕ) → e < l.letter → BeginsWith l.parser.charts.now l.parser.goal.now l.dead e → ⊥

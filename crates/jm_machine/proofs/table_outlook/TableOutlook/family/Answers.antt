@@ -1,4 +1,0 @@
-use Rattle.jm_machine.proofs.table_outlook.TableOutlook.family.Goals as goal
-
-pub returns-clause-exact : goal.returns-clause-exact
-returns-clause-exact c = rw (← c.self.view_is) c.family.ensures.exact

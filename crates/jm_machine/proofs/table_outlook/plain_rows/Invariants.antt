@@ -1,9 +1,0 @@
-use Rattle.std.proofs.Common.{◌≡◌, length, map}
-use Rattle.jm_machine.specs.Outlooks.{ArePlainRows}
-use Rattle.jm_machine.proofs.table_outlook.plain_rows.Given as goal
-
-abbrev pub invariant-loop-letter : goal.invariant-loop-letter
-invariant-loop-letter l = record {
-  count : length l.rows.items ≡ l.letter;
-  each : ArePlainRows l.table l.hits l.goal l.needs (map (λ row. row.items) l.rows.items);
-}
