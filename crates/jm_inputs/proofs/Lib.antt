@@ -7,6 +7,6 @@ pub mod OrderLemmas
 pub mod SilentLemmas
 pub mod NameLemmas
 pub mod JobLemmas
-pub mod LibraryLemmas
+pub mod SpecSetLemmas
 pub mod ScriptLemmas
 pub mod StopLemmas

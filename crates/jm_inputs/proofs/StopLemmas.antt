@@ -23,7 +23,7 @@ use Rattle.jm_cli.specs.Words.CommandWords.{Replay, Run, Check, Coenable, Gen, S
 use Rattle.jm_inputs.specs.declared.status.Status.{Status}
 use Rattle.jm_model.specs.declared.fault.ScriptFault.TheVariants as script
 use Rattle.jm_inputs.specs.declared.status.Status.TheVariants.{Done, Usage, BadSpec, BadScript, ReadFailed, WriteFailed, NoMemory, BadHistory}
-use Rattle.jm_inputs.specs.declared.library.Library.{Library}
+use Rattle.jm_inputs.specs.declared.spec_set.SpecSet.{SpecSet}
 use Rattle.jm_inputs.specs.declared.scripts.Scripts.{Scripts}
 use Rattle.jm_inputs.specs.declared.inputs.Inputs.{Inputs}
 use Rattle.jm_inputs.specs.Sources.{Source, Named, Given, Gives, IsFile}
@@ -32,11 +32,11 @@ use Rattle.jm_inputs.specs.Specifications.{Specification, most_bytes, line_or, g
 use Rattle.jm_inputs.specs.Scripts.{catalog_of}
 use Rattle.jm_inputs.specs.Inputs.{grammar_fault, SaySpecifications, step_count, asked_by}
 use Rattle.jm_inputs.specs.Causes.{IsNotLoaded, IsNoSpec, IsNoOrder, IsNoScript, IsNoRecording, StopsSpecs, StopsScripts, StopsInputs, StopsCommand, short, at_history, at_spec, at_script, at_recording, IsNoRecordingIn}
-use Rattle.jm_inputs.specs.Reading.{Listed, listed_in, specification_of, specs_in, IsLibraryOf, AreScriptsOf, AreInputsOf}
+use Rattle.jm_inputs.specs.Reading.{Listed, listed_in, specification_of, specs_in, IsSpecSetOf, AreScriptsOf, AreInputsOf}
 use Rattle.jm_inputs.specs.Recordings.{too_long}
 use Rattle.jm_inputs.proofs.JobLemmas.{too_long_bytes, history_not_loaded}
 use Rattle.jm_inputs.proofs.OneReadingLemmas.{never_some}
-use Rattle.jm_inputs.proofs.LibraryLemmas.{length-specs_in}
+use Rattle.jm_inputs.proofs.SpecSetLemmas.{length-specs_in}
 use Rattle.jm_inputs.proofs.InputLemmas.{length-said, length-scripts}
 
 -- ---- specifications and scripts
@@ -63,11 +63,11 @@ module _ (contents later : List ℕ → Option (List ℕ)) (same : (name : List 
   given_before name bytes h = subst (λ (v : List ℕ → Option (List ℕ)). Gives v (Named name) bytes) held h
 
   -- the scripts weren't read, after these specifications
-  pub stopped_behind : (ordered : Bool) (files count before : ℕ) (specs scripts : List Source) (library : Library) (status : Status) → IsLibraryOf contents false specs library → before ≡ files + length specs
-      → StopsScripts later ordered (specs_in library) before count scripts status → StopsInputs contents ordered files count specs scripts status
-  stopped_behind ordered files count before specs scripts library status read many h =
+  pub stopped_behind : (ordered : Bool) (files count before : ℕ) (specs scripts : List Source) (spec_set : SpecSet) (status : Status) → IsSpecSetOf contents false specs spec_set → before ≡ files + length specs
+      → StopsScripts later ordered (specs_in spec_set) before count scripts status → StopsInputs contents ordered files count specs scripts status
+  stopped_behind ordered files count before specs scripts spec_set status read many h =
       inr
-      (specs_in library, read.said, subst (λ n. StopsScripts contents ordered (specs_in library) n count scripts status) many (subst (λ (v : List ℕ → Option (List ℕ)). StopsScripts v ordered (specs_in library) before count scripts status) held h))
+      (specs_in spec_set, read.said, subst (λ n. StopsScripts contents ordered (specs_in spec_set) n count scripts status) many (subst (λ (v : List ℕ → Option (List ℕ)). StopsScripts v ordered (specs_in spec_set) before count scripts status) held h))
 
 module _ (contents : List ℕ → Option (List ℕ)) where
   pub replay_stops : (spec script : List ℕ) (status : Status) → StopsInputs contents true 0 0 (named (spec ∷ [])) (named (script ∷ [])) status → StopsCommand contents (Replay spec script) status
@@ -128,11 +128,11 @@ module _ (contents : List ℕ → Option (List ℕ)) where
   recording_from specs recording bytes given WriteFailed h = absurd h
   recording_from specs recording bytes given BadHistory h = absurd h
 
-  pub sweep_unloaded : (spec recording : List ℕ) (library : Library) (status : Status) → IsLibraryOf contents false (named (spec ∷ [])) library → IsNotLoaded contents recording 1 most_bytes (BadScript 0 script.TooLong) status → StopsCommand contents (Sweep spec recording) status
-  sweep_unloaded spec recording library status read h = at_recording spec recording (specs_in library) status refl read.said (recording_not_loaded (specs_in library) recording status h)
+  pub sweep_unloaded : (spec recording : List ℕ) (spec_set : SpecSet) (status : Status) → IsSpecSetOf contents false (named (spec ∷ [])) spec_set → IsNotLoaded contents recording 1 most_bytes (BadScript 0 script.TooLong) status → StopsCommand contents (Sweep spec recording) status
+  sweep_unloaded spec recording spec_set status read h = at_recording spec recording (specs_in spec_set) status refl read.said (recording_not_loaded (specs_in spec_set) recording status h)
 
-  pub sweep_faulty : (spec recording bytes : List ℕ) (library : Library) (status : Status) → IsLibraryOf contents false (named (spec ∷ [])) library → Gives contents (Named recording) bytes → IsNoRecordingIn (specs_in library) bytes status → StopsCommand contents (Sweep spec recording) status
-  sweep_faulty spec recording bytes library status read given h = at_recording spec recording (specs_in library) status refl read.said (recording_from (specs_in library) recording bytes given status h)
+  pub sweep_faulty : (spec recording bytes : List ℕ) (spec_set : SpecSet) (status : Status) → IsSpecSetOf contents false (named (spec ∷ [])) spec_set → Gives contents (Named recording) bytes → IsNoRecordingIn (specs_in spec_set) bytes status → StopsCommand contents (Sweep spec recording) status
+  sweep_faulty spec recording bytes spec_set status read given h = at_recording spec recording (specs_in spec_set) status refl read.said (recording_from (specs_in spec_set) recording bytes given status h)
 
   -- what was read of files that are those of a workload
   pub inputs_are : (n : ℕ) (specs scripts : List (List ℕ)) (r : Result Inputs Status) → specs ≡ workload_specs → scripts ≡ workload_scripts n → IfOk r (AreInputsOf contents true 0 (given_files specs) (given_files scripts))
@@ -154,9 +154,9 @@ scripts_length_of n = refl
 pub given_length : {V : Type 0} (items : V → List ℕ) (files : List V) (texts : List (List ℕ)) (n : ℕ) → map items files ≡ texts → length texts ≡ n → length files ≡ n
 given_length {V} items files texts n is many = sym (length-map files items) ∙ ap (λ v. length v) is ∙ many
 
-pub workload_library : (contents : List ℕ → Option (List ℕ)) (library : Library) → IsLibraryOf contents false (given_files workload_specs) library → length library.specs.items ≡ 2
-workload_library contents library h =
-    sym (length-specs_in library h.catalogued) ∙ length-said contents false [] (given_files workload_specs) (specs_in library) h.said ∙ length-map workload_specs (λ bytes. Given bytes) ∙ specs_length
+pub workload_spec_set : (contents : List ℕ → Option (List ℕ)) (spec_set : SpecSet) → IsSpecSetOf contents false (given_files workload_specs) spec_set → length spec_set.specs.items ≡ 2
+workload_spec_set contents spec_set h =
+    sym (length-specs_in spec_set h.catalogued) ∙ length-said contents false [] (given_files workload_specs) (specs_in spec_set) h.said ∙ length-map workload_specs (λ bytes. Given bytes) ∙ specs_length
 
 pub workload_many : (contents : List ℕ → Option (List ℕ)) (specs : List Specification) (n : ℕ) (scripts : Scripts) → AreScriptsOf contents true specs 0 (given_files (workload_scripts n)) scripts → length scripts.list.items ≡ 4
 workload_many contents specs n scripts h =
@@ -252,5 +252,5 @@ unmapped P [] all = All-nil (λ l. P (specification_of l))
 unmapped P (l ∷ ls) all = All-cons (λ l. P (specification_of l)) l ls (All-head P (specification_of l) (map specification_of ls) all) (unmapped P ls (All-tail P (specification_of l) (map specification_of ls) all))
 
 -- where families were asked for, no specification has a grammar
-pub tables_in : (contents : List ℕ → Option (List ℕ)) (sources : List Source) (library : Library) → IsLibraryOf contents true sources library → All (λ l. has_grammar l.rules.definition.properties ≡ false) (listed_in library)
-tables_in contents sources library h = unmapped (λ (s : Specification). has_grammar s.rules.properties ≡ false) (listed_in library) (tables_said contents [] sources (specs_in library) h.said)
+pub tables_in : (contents : List ℕ → Option (List ℕ)) (sources : List Source) (spec_set : SpecSet) → IsSpecSetOf contents true sources spec_set → All (λ l. has_grammar l.rules.definition.properties ≡ false) (listed_in spec_set)
+tables_in contents sources spec_set h = unmapped (λ (s : Specification). has_grammar s.rules.properties ≡ false) (listed_in spec_set) (tables_said contents [] sources (specs_in spec_set) h.said)

@@ -12,8 +12,8 @@ use Rattle.jm_machine.specs.Meanings.{RuleDefinition, handler_count}
 use Rattle.jm_machine.specs.RuleSets.{CompiledRules}
 use Rattle.jm_events.specs.Events.{EventDefinitions}
 use Rattle.jm_machine.specs.Compiling.{IsCompiledFrom, IsFaultyTree}
-use Rattle.jm_inputs.specs.declared.specification.Titles.{Titles}
-use Rattle.jm_inputs.specs.declared.specification.Reading.{Reading}
+use Rattle.jm_inputs.specs.declared.specification.SpecHeader.{SpecHeader}
+use Rattle.jm_inputs.specs.declared.specification.NamedSpec.{NamedSpec}
 use Rattle.jm_inputs.specs.Specifications.{IsTold, IsSpecFault, in_tree, logics_of, grammar_line_of, all_handlers, BlocksSay, most_bytes}
 use Rattle.jm_inputs.specs.Reading.{IsRead}
 
@@ -25,12 +25,12 @@ module _ (bytes : List ℕ) (tokens : List Token) (small : length bytes ≤ most
   tree_fault_of tree fault told h = in_tree tokens tree fault (told_of tree told) h
 
   -- what is kept of a specification
-  pub read_of : (tree : SpecTree) (r : Reading) (rules : CompiledRules) (titles : Titles) → IsTreeOfTokens bytes tokens tree → IsCompiledFrom bytes tokens tree rules.definition
+  pub read_of : (tree : SpecTree) (r : NamedSpec) (rules : CompiledRules) (header : SpecHeader) → IsTreeOfTokens bytes tokens tree → IsCompiledFrom bytes tokens tree rules.definition
       → All (λ mask. mask < 2 ^ length tree.table.parameters) rules.definition.masks → handler_count rules.definition.properties ≤ 16
-      → titles.logics.items ≡ logics_of (properties_of tree) → titles.grammar_line ≡ grammar_line_of (properties_of tree) → titles.full_binding ≡ tree.full_binding → titles.suffix ≡ is_some tree.suffix
-      → BlocksSay bytes tokens tree.table.parameters (all_handlers (properties_of tree)) titles.texts.items
-      → r.loaded.rules ≡ rules → r.loaded.titles ≡ titles → r.name.now ≡ name_of bytes tree.name → r.table ≡ tree.table → IsRead bytes r
-  read_of tree r rules titles told compiled fit few logics line full anywhere say is kept named table =
+      → header.logics.items ≡ logics_of (properties_of tree) → header.grammar_line ≡ grammar_line_of (properties_of tree) → header.full_binding ≡ tree.full_binding → header.suffix ≡ is_some tree.suffix
+      → BlocksSay bytes tokens tree.table.parameters (all_handlers (properties_of tree)) header.texts.items
+      → r.compiled.rules ≡ rules → r.compiled.header ≡ header → r.name.now ≡ name_of bytes tree.name → r.table ≡ tree.table → IsRead bytes r
+  read_of tree r rules header told compiled fit few logics line full anywhere say is kept named table =
       let masks : rules.definition.masks ≡ map (λ e. e.mask) tree.table.events = ap (λ (x : RuleDefinition). x.masks) compiled.rules in
       record {
         said = record {
@@ -40,15 +40,15 @@ module _ (bytes : List ℕ) (tokens : List Token) (small : length bytes ≤ most
           rules = subst (λ (x : CompiledRules). IsCompiledFrom bytes tokens tree x.definition) (sym is) compiled;
           name = named;
           table = table;
-          logics = ap (λ (t : Titles). t.logics.items) kept ∙ logics;
-          grammar_line = ap (λ (t : Titles). t.grammar_line) kept ∙ line;
-          full_binding = ap (λ (t : Titles). t.full_binding) kept ∙ full;
-          suffix = ap (λ (t : Titles). t.suffix) kept ∙ anywhere;
-          texts = subst (λ (t : Titles). BlocksSay bytes tokens tree.table.parameters (all_handlers (properties_of tree)) t.texts.items) (sym kept) say;
+          logics = ap (λ (t : SpecHeader). t.logics.items) kept ∙ logics;
+          grammar_line = ap (λ (t : SpecHeader). t.grammar_line) kept ∙ line;
+          full_binding = ap (λ (t : SpecHeader). t.full_binding) kept ∙ full;
+          suffix = ap (λ (t : SpecHeader). t.suffix) kept ∙ anywhere;
+          texts = subst (λ (t : SpecHeader). BlocksSay bytes tokens tree.table.parameters (all_handlers (properties_of tree)) t.texts.items) (sym kept) say;
         };
         kept = record {
           masks = ap (λ (x : CompiledRules). x.definition.masks) is ∙ masks ∙ ap (λ (t : EventDefinitions). map (λ e. e.mask) t.events) (sym table);
-          fit = subst (λ (t : EventDefinitions). All (λ mask. mask < 2 ^ length t.parameters) r.loaded.rules.definition.masks) (sym table) (subst (λ (x : CompiledRules). All (λ mask. mask < 2 ^ length tree.table.parameters) x.definition.masks) (sym is) fit);
+          fit = subst (λ (t : EventDefinitions). All (λ mask. mask < 2 ^ length t.parameters) r.compiled.rules.definition.masks) (sym table) (subst (λ (x : CompiledRules). All (λ mask. mask < 2 ^ length tree.table.parameters) x.definition.masks) (sym is) fit);
           few = subst (λ (x : CompiledRules). handler_count x.definition.properties ≤ 16) (sym is) few;
         };
       }

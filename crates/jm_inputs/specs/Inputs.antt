@@ -9,8 +9,8 @@ use Rattle.jm_script.specs.declared.script.ScriptLine.{ScriptLine}
 use Rattle.jm_script.specs.Catalogs.{spec_names}
 use Rattle.jm_sync.specs.declared.line.SyncLine.{SyncLine}
 use Rattle.jm_sync.specs.Cuts.{names_after, sync_lines_of}
-use Rattle.jm_inputs.specs.declared.library.Purpose.{Purpose}
-use Rattle.jm_inputs.specs.declared.library.Purpose.TheVariants.{Rules, Families}
+use Rattle.jm_inputs.specs.declared.spec_set.Purpose.{Purpose}
+use Rattle.jm_inputs.specs.declared.spec_set.Purpose.TheVariants.{Rules, Families}
 use Rattle.jm_inputs.specs.Sources.{FileContents, Source, Gives}
 use Rattle.jm_inputs.specs.Specifications.{Specification, IsSpecification, IsSpecFault}
 use Rattle.jm_inputs.specs.Scripts.{catalog_of, IsScriptFile}

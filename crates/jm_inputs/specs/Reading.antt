@@ -13,10 +13,10 @@ use Rattle.jm_sync.specs.Cuts.{RisesFrom}
 use Rattle.jm_events.specs.Events.{EventDefinitions}
 use Rattle.jm_machine.specs.Meanings.{RuleDefinition, handler_count}
 use Rattle.jm_machine.specs.RuleSets.{CompiledRules}
-use Rattle.jm_inputs.specs.declared.specification.Titles.{Titles}
-use Rattle.jm_inputs.specs.declared.specification.Loaded.{Loaded}
-use Rattle.jm_inputs.specs.declared.specification.Reading.{Reading}
-use Rattle.jm_inputs.specs.declared.library.Library.{Library}
+use Rattle.jm_inputs.specs.declared.specification.SpecHeader.{SpecHeader}
+use Rattle.jm_inputs.specs.declared.specification.CompiledSpec.{CompiledSpec}
+use Rattle.jm_inputs.specs.declared.specification.NamedSpec.{NamedSpec}
+use Rattle.jm_inputs.specs.declared.spec_set.SpecSet.{SpecSet}
 use Rattle.jm_inputs.specs.declared.scripts.Scripts.{Scripts}
 use Rattle.jm_inputs.specs.declared.inputs.Inputs.{Inputs}
 use Rattle.jm_inputs.specs.Sources.{FileContents, Source, Gives}
@@ -26,18 +26,18 @@ use Rattle.jm_inputs.specs.Inputs.{IsAdmitted, SaySpecifications, step_count, Sa
 
 -- ---- specifications
 
--- what is kept of a specification: what its catalog has, its titles and its rules
+-- what is kept of a specification: what its catalog has, its header and its rules
 pub record Listed : Type 0 where
   pub entry : CatalogEntry
-  pub titles : Titles
+  pub header : SpecHeader
   pub rules : CompiledRules
 
 -- what is kept under this entry
-abbrev pub listing : CatalogEntry → Loaded → Listed
-listing e l = record { entry = e; titles = l.titles; rules = l.rules }
+abbrev pub listing : CatalogEntry → CompiledSpec → Listed
+listing e l = record { entry = e; header = l.header; rules = l.rules }
 
 -- each is kept under the entry of its place
-abbrev pub listed : List CatalogEntry → List Loaded → List Listed
+abbrev pub listed : List CatalogEntry → List CompiledSpec → List Listed
 listed (e ∷ es) (l ∷ ls) = listing e l ∷ listed es ls
 listed _ _ = []
 
@@ -46,25 +46,25 @@ abbrev pub named_entry : Text → EventDefinitions → CatalogEntry
 named_entry name table = record { name = name; table = table }
 
 -- what was read
-abbrev pub listing_of : Reading → Listed
-listing_of r = listing (named_entry r.name.now r.table) r.loaded
+abbrev pub listing_of : NamedSpec → Listed
+listing_of r = listing (named_entry r.name.now r.table) r.compiled
 
--- the specification of this entry, with these titles and rules
-abbrev pub titled : CatalogEntry → Titles → RuleDefinition → Specification
-titled entry titles rules = record {
+-- the specification of this entry, with this header and these rules
+abbrev pub titled : CatalogEntry → SpecHeader → RuleDefinition → Specification
+titled entry header rules = record {
   name = entry.name;
   table = entry.table;
-  logics = titles.logics.items;
-  grammar_line = titles.grammar_line;
-  full_binding = titles.full_binding;
-  suffix = titles.suffix;
+  logics = header.logics.items;
+  grammar_line = header.grammar_line;
+  full_binding = header.full_binding;
+  suffix = header.suffix;
   rules = rules;
-  texts = titles.texts.items;
+  texts = header.texts.items;
 }
 
 -- the specification that is kept
 abbrev pub specification_of : Listed → Specification
-specification_of l = titled l.entry l.titles l.rules.definition
+specification_of l = titled l.entry l.header l.rules.definition
 
 -- the letters of the rules are the events of the entry, whose sets of parameters are there; and few are handled
 pub record AreRulesOf (entry : CatalogEntry) (rules : RuleDefinition) : Type 0 where
@@ -76,40 +76,40 @@ abbrev pub IsWhole : Listed → Type 0
 IsWhole l = AreRulesOf l.entry l.rules.definition
 
 -- the bytes say the specification that is kept
-pub record IsRead (bytes : Text) (r : Reading) : Type 0 where
+pub record IsRead (bytes : Text) (r : NamedSpec) : Type 0 where
   pub said : IsSpecification bytes (specification_of (listing_of r))
   pub kept : IsWhole (listing_of r)
 
--- the specifications of a library
-abbrev pub listed_in : Library → List Listed
-listed_in library = listed library.catalog library.specs.items
+-- the specifications of a spec set
+abbrev pub listed_in : SpecSet → List Listed
+listed_in spec_set = listed spec_set.catalog spec_set.specs.items
 
-abbrev pub specs_in : Library → List Specification
-specs_in library = map specification_of (listed_in library)
+abbrev pub specs_in : SpecSet → List Specification
+specs_in spec_set = map specification_of (listed_in spec_set)
 
 -- the catalog has an entry for each specification, and each is kept whole
-pub record IsCatalogued (library : Library) : Type 0 where
-  pub many : length library.catalog ≡ length library.specs.items
-  pub kept : All IsWhole (listed_in library)
+pub record IsCatalogued (spec_set : SpecSet) : Type 0 where
+  pub many : length spec_set.catalog ≡ length spec_set.specs.items
+  pub kept : All IsWhole (listed_in spec_set)
 
--- the library has one specification more, which these bytes say
-pub record HasNext (families : Bool) (bytes : Text) (old new : Library) : Type 0 where
+-- the spec set has one specification more, which these bytes say
+pub record HasNext (families : Bool) (bytes : Text) (old new : SpecSet) : Type 0 where
   pub specification : Specification
   pub admitted : IsAdmitted families (specs_in old) bytes specification
   pub specs : specs_in new ≡ specs_in old ++ specification ∷ []
   pub catalogued : IsCatalogued new
 
 -- which a file of this name says
-pub record HasNextFrom (contents : FileContents) (source : Source) (families : Bool) (old new : Library) : Type 0 where
+pub record HasNextFrom (contents : FileContents) (source : Source) (families : Bool) (old new : SpecSet) : Type 0 where
   pub bytes : Text
   pub given : Gives contents source bytes
   pub next : HasNext families bytes old new
 
--- the library has what the sources say
-pub record IsLibraryOf (contents : FileContents) (families : Bool) (sources : List Source)
-    (library : Library) : Type 0 where
-  pub said : SaySpecifications contents families [] sources (specs_in library)
-  pub catalogued : IsCatalogued library
+-- the spec set has what the sources say
+pub record IsSpecSetOf (contents : FileContents) (families : Bool) (sources : List Source)
+    (spec_set : SpecSet) : Type 0 where
+  pub said : SaySpecifications contents families [] sources (specs_in spec_set)
+  pub catalogued : IsCatalogued spec_set
 
 -- ---- scripts
 
@@ -185,5 +185,5 @@ module _ (contents : FileContents) (ordered : Bool) where
 
   -- what was read is what these sources of specifications and of scripts say, these after so many steps
   pub record AreInputsOf (count : ℕ) (specs scripts : List Source) (inputs : Inputs) : Type 0 where
-    pub library : IsLibraryOf contents false specs inputs.library
-    pub read : AreScriptsOf (specs_in inputs.library) count scripts inputs.scripts
+    pub spec_set : IsSpecSetOf contents false specs inputs.spec_set
+    pub read : AreScriptsOf (specs_in inputs.spec_set) count scripts inputs.scripts

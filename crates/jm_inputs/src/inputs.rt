@@ -9,8 +9,8 @@ ghost use Rattle.jm_inputs.specs.Reading.{AreInputsOf};
 ghost use Rattle.jm_script.specs.Catalogs.{most_specs, most_scripts};
 ghost use Rattle.jm_script.specs.Meanings.{most_steps};
 
-use crate::library::{Library, Purpose, given_specifications, read_specifications};
 use crate::scripts::{Scripts, Setting, given_scripts, read_scripts};
+use crate::spec_set::{Purpose, SpecSet, given_specifications, read_specifications};
 use crate::status::Status;
 use jm_gen::{GenError, Workload, workload};
 use jm_model::NoMemory;
@@ -20,7 +20,7 @@ use std::alloc::Global;
 /// The specifications and the scripts of a command.
 #[derive(Drop)]
 pub struct Inputs {
-    pub library: Library,
+    pub spec_set: SpecSet,
     pub scripts: Scripts,
 }
 
@@ -42,9 +42,9 @@ pub fn read_inputs<F: Folder>(
         (named (map string_bytes specs.now)) (named (map string_bytes scripts.now))) }
     ensures read_failed { CountsFailedReads result (F.faults files.old) (F.faults files.new) }
 {
-    let library = read_specifications(alloc, specs, setting.files, Purpose::Rules, files)?;
-    let scripts = read_scripts(alloc, scripts, &library, setting, files)?;
-    Ok(Inputs { library, scripts })
+    let spec_set = read_specifications(alloc, specs, setting.files, Purpose::Rules, files)?;
+    let scripts = read_scripts(alloc, scripts, &spec_set, setting, files)?;
+    Ok(Inputs { spec_set, scripts })
 }
 
 /// Reads files that are given, specifications and scripts, as if they were loaded.
@@ -58,9 +58,9 @@ fn given_inputs(alloc: Global, specs: &[Vec<u8>], scripts: &[Vec<u8>]) -> Result
         → IfErr result (StopsInputs contents true 0 0 (given_files (map (λ file. file.items) specs.now))
         (given_files (map (λ file. file.items) scripts.now))) }
 {
-    let library = given_specifications(alloc, specs)?;
-    let scripts = given_scripts(alloc, scripts, &library)?;
-    Ok(Inputs { library, scripts })
+    let spec_set = given_specifications(alloc, specs)?;
+    let scripts = given_scripts(alloc, scripts, &spec_set)?;
+    Ok(Inputs { spec_set, scripts })
 }
 
 /// Makes the workload of `n` rounds, and reads its files as if they were loaded.

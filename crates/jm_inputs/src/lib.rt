@@ -8,7 +8,7 @@
 //! |---|---|
 //! | `status` | how a command ends |
 //! | `files` | the bytes of a file |
-//! | `library`, `specification` | specifications, read one after the other |
+//! | `spec_set`, `specification` | specifications, read one after the other |
 //! | `scripts` | scripts, read one after the other |
 //! | `inputs` | the specifications and scripts of a command, loaded or made |
 //! | `laws` | what holds of all files |
@@ -17,15 +17,15 @@
 mod files;
 mod inputs;
 mod laws;
-mod library;
 mod scripts;
+mod spec_set;
 mod specification;
 mod status;
 
 pub use files::load;
 pub use inputs::{Inputs, read_inputs, read_workload};
 pub use laws::one_reading;
-pub use library::{Library, Purpose, read_specifications};
 pub use scripts::{Scripts, Setting, too_long};
-pub use specification::{Loaded, Titles};
+pub use spec_set::{Purpose, SpecSet, read_specifications};
+pub use specification::{CompiledSpec, SpecHeader};
 pub use status::{MOST_BYTES, Status};

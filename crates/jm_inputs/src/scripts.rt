@@ -15,7 +15,7 @@ ghost use Rattle.jm_script.specs.Meanings.{most_steps};
 ghost use Rattle.jm_script.specs.Objects.{most_objects};
 
 use crate::files::{let_go, load};
-use crate::library::Library;
+use crate::spec_set::SpecSet;
 use crate::status::{MOST_BYTES, Status};
 use jm_events::Names;
 use jm_model::{NoMemory, ScriptError, ScriptFault};
@@ -71,53 +71,53 @@ impl Scripts {
     }
 }
 
-/// Reads the scripts of these names, in order, over the specifications of the library, whose files stand before them,
+/// Reads the scripts of these names, in order, over the specifications of the spec set, whose files stand before them,
 /// and checks what they ask for.
 pub(crate) fn read_scripts<F: Folder>(
     alloc: Global,
     names: &[String],
-    library: &Library,
+    spec_set: &SpecSet,
     setting: Setting,
     files: &mut F,
 ) -> Result<Scripts, Status>
     requires bounded { length names.now ≤ most_scripts }
     requires files { setting.files ≤ 1 }
     requires steps { setting.steps ≤ most_steps }
-    requires few_specs { length library.now.specs.items ≤ most_specs }
-    requires catalogued { IsCatalogued library.now }
-    ensures read { IfOk result (AreScriptsOf (F.holds files.old) setting.ordered (specs_in library.now) setting.steps
+    requires few_specs { length spec_set.now.specs.items ≤ most_specs }
+    requires catalogued { IsCatalogued spec_set.now }
+    ensures read { IfOk result (AreScriptsOf (F.holds files.old) setting.ordered (specs_in spec_set.now) setting.steps
         (named (map string_bytes names.now))) }
-    ensures err { IfErr result (StopsScripts (F.holds files.old) setting.ordered (specs_in library.now)
-        (setting.files + length library.now.specs.items) setting.steps (named (map string_bytes names.now))) }
+    ensures err { IfErr result (StopsScripts (F.holds files.old) setting.ordered (specs_in spec_set.now)
+        (setting.files + length spec_set.now.specs.items) setting.steps (named (map string_bytes names.now))) }
     ensures read_failed { CountsFailedReads result (F.faults files.old) (F.faults files.new) }
 {
     let mut scripts = Scripts::new(alloc, setting.steps);
     for name in names {
-        read_next(alloc, name.as_str(), library, setting, files, &mut scripts)?;
+        read_next(alloc, name.as_str(), spec_set, setting, files, &mut scripts)?;
     }
     check_order(alloc, scripts.cuts.as_slice())?;
     Ok(scripts)
 }
 
-/// Reads the scripts that these bytes say, in order, over the specifications of the library, and checks what they ask
+/// Reads the scripts that these bytes say, in order, over the specifications of the spec set, and checks what they ask
 /// for.
 pub(crate) fn given_scripts(
     alloc: Global,
     files: &[Vec<u8>],
-    library: &Library,
+    spec_set: &SpecSet,
 ) -> Result<Scripts, Status>
     requires bounded { length files.now ≤ most_scripts }
-    requires catalogued { IsCatalogued library.now }
+    requires catalogued { IsCatalogued spec_set.now }
     ensures read { (contents : FileContents)
-        → IfOk result (AreScriptsOf contents true (specs_in library.now) 0
+        → IfOk result (AreScriptsOf contents true (specs_in spec_set.now) 0
         (given_files (map (λ file. file.items) files.now))) }
     ensures err { (contents : FileContents)
-        → IfErr result (StopsScripts contents true (specs_in library.now) (length library.now.specs.items) 0
+        → IfErr result (StopsScripts contents true (specs_in spec_set.now) (length spec_set.now.specs.items) 0
         (given_files (map (λ file. file.items) files.now))) }
 {
     let mut scripts = Scripts::new(alloc, 0);
     for file in files {
-        read_given(alloc, file.as_slice(), library, &mut scripts)?;
+        read_given(alloc, file.as_slice(), spec_set, &mut scripts)?;
     }
     check_order(alloc, scripts.cuts.as_slice())?;
     Ok(scripts)
@@ -142,52 +142,52 @@ fn check_order(alloc: Global, cuts: &[Cut]) -> Result<(), Status>
 fn read_given(
     alloc: Global,
     bytes: &[u8],
-    library: &Library,
+    spec_set: &SpecSet,
     scripts: &mut Scripts,
 ) -> Result<(), Status>
     requires bounded { length scripts.old.list.items < most_scripts }
-    requires catalogued { IsCatalogued library.now }
-    requires counted { AreCounted (specs_in library.now) scripts.old }
-    ensures read { OnOk result (HasScript true (specs_in library.now) bytes.now scripts.old scripts.new) }
-    ensures err { IfErr result (IsNoScriptFileIn true (specs_in library.now) scripts.old.count scripts.old.objects
+    requires catalogued { IsCatalogued spec_set.now }
+    requires counted { AreCounted (specs_in spec_set.now) scripts.old }
+    ensures read { OnOk result (HasScript true (specs_in spec_set.now) bytes.now scripts.old scripts.new) }
+    ensures err { IfErr result (IsNoScriptFileIn true (specs_in spec_set.now) scripts.old.count scripts.old.objects
         (length scripts.old.list.items) bytes.now) }
 {
     let number = scripts.list.len() as u32;
     if bytes.len() > MOST_BYTES {
         return Err(too_long(number));
     }
-    read_bytes(alloc, bytes, number, library, true, scripts)
+    read_bytes(alloc, bytes, number, spec_set, true, scripts)
 }
 
 /// Reads the script of this name, after the others. After an error the scripts are of no use.
 fn read_next<F: Folder>(
     alloc: Global,
     name: &str,
-    library: &Library,
+    spec_set: &SpecSet,
     setting: Setting,
     files: &mut F,
     scripts: &mut Scripts,
 ) -> Result<(), Status>
-    requires few_files { setting.files + length library.now.specs.items ≤ 17 }
+    requires few_files { setting.files + length spec_set.now.specs.items ≤ 17 }
     requires bounded { length scripts.old.list.items < most_scripts }
-    requires catalogued { IsCatalogued library.now }
-    requires counted { AreCounted (specs_in library.now) scripts.old }
+    requires catalogued { IsCatalogued spec_set.now }
+    requires counted { AreCounted (specs_in spec_set.now) scripts.old }
     ensures read { OnOk result (HasScriptFrom (F.holds files.old) (Named name.now)
-        setting.ordered (specs_in library.now) scripts.old scripts.new) }
-    ensures err { IfErr result (IsNoScript (F.holds files.old) setting.ordered (specs_in library.now)
-        (setting.files + length library.now.specs.items) scripts.old.count scripts.old.objects
+        setting.ordered (specs_in spec_set.now) scripts.old scripts.new) }
+    ensures err { IfErr result (IsNoScript (F.holds files.old) setting.ordered (specs_in spec_set.now)
+        (setting.files + length spec_set.now.specs.items) scripts.old.count scripts.old.objects
         (length scripts.old.list.items) (Named name.now)) }
     ensures read_failed { CountsFailedReads result (F.faults files.old) (F.faults files.new) }
     ensures files { AreOnlyRead (F.holds files.old) (F.holds files.new) (F.faults files.old) (F.faults files.new) }
 {
     let number = scripts.list.len() as u32;
-    let specs = setting.files + library.specs.len() as u32;
+    let specs = setting.files + spec_set.specs.len() as u32;
     let bytes = load(name, specs + number, MOST_BYTES, too_long(number), files)?;
     let read = read_bytes(
         alloc,
         bytes.as_slice(),
         number,
-        library,
+        spec_set,
         setting.ordered,
         scripts,
     );
@@ -211,19 +211,19 @@ fn read_bytes(
     alloc: Global,
     bytes: &[u8],
     number: u32,
-    library: &Library,
+    spec_set: &SpecSet,
     ordered: bool,
     scripts: &mut Scripts,
 ) -> Result<(), Status>
     requires small { length bytes.now ≤ most_bytes }
     requires bounded { length scripts.old.list.items < most_scripts }
-    requires catalogued { IsCatalogued library.now }
-    requires counted { AreCounted (specs_in library.now) scripts.old }
-    ensures read { OnOk result (HasScript ordered (specs_in library.now) bytes.now scripts.old scripts.new) }
+    requires catalogued { IsCatalogued spec_set.now }
+    requires counted { AreCounted (specs_in spec_set.now) scripts.old }
+    ensures read { OnOk result (HasScript ordered (specs_in spec_set.now) bytes.now scripts.old scripts.new) }
     ensures err { IfErr result (IsNoScriptFileIn ordered
-        (specs_in library.now) scripts.old.count scripts.old.objects number bytes.now) }
+        (specs_in spec_set.now) scripts.old.count scripts.old.objects number bytes.now) }
 {
-    match add(alloc, bytes, library, ordered, scripts) {
+    match add(alloc, bytes, spec_set, ordered, scripts) {
         Ok(()) => Ok(()),
         Err(ScriptError::Bad(fault)) => {
             Err(Status::BadScript {
@@ -240,28 +240,28 @@ fn read_bytes(
 fn add(
     alloc: Global,
     bytes: &[u8],
-    library: &Library,
+    spec_set: &SpecSet,
     ordered: bool,
     scripts: &mut Scripts,
 ) -> Result<(), ScriptError>
     requires small { length bytes.now ≤ most_bytes }
     requires bounded { length scripts.old.list.items < most_scripts }
-    requires catalogued { IsCatalogued library.now }
-    requires counted { AreCounted (specs_in library.now) scripts.old }
-    ensures read { OnOk result (HasScript ordered (specs_in library.now) bytes.now scripts.old scripts.new) }
+    requires catalogued { IsCatalogued spec_set.now }
+    requires counted { AreCounted (specs_in spec_set.now) scripts.old }
+    ensures read { OnOk result (HasScript ordered (specs_in spec_set.now) bytes.now scripts.old scripts.new) }
     ensures fault { (fault : ScriptFault) → result ≡ Err (ScriptError.Bad fault)
-        → IsScriptFileFault ordered (specs_in library.now) scripts.old.count scripts.old.objects bytes.now fault }
+        → IsScriptFileFault ordered (specs_in spec_set.now) scripts.old.count scripts.old.objects bytes.now fault }
 {
     if ordered && seems_to_ask(bytes, scripts) {
-        return add_cut(alloc, bytes, library, scripts);
+        return add_cut(alloc, bytes, spec_set, scripts);
     }
     let names = scripts.objects.len();
     let count = scripts.count;
-    match add_steps(alloc, bytes, Vec::new(alloc), library, scripts) {
+    match add_steps(alloc, bytes, Vec::new(alloc), spec_set, scripts) {
         Err(ScriptError::Bad(_)) if ordered => {
             scripts.objects = first_names(alloc, &scripts.objects, names)?;
             scripts.count = count;
-            add_cut(alloc, bytes, library, scripts)
+            add_cut(alloc, bytes, spec_set, scripts)
         }
         result => result,
     }
@@ -278,19 +278,19 @@ fn seems_to_ask(bytes: &[u8], scripts: &Scripts) -> bool {
 fn add_cut(
     alloc: Global,
     bytes: &[u8],
-    library: &Library,
+    spec_set: &SpecSet,
     scripts: &mut Scripts,
 ) -> Result<(), ScriptError>
     requires small { length bytes.now ≤ most_bytes }
     requires bounded { length scripts.old.list.items < most_scripts }
-    requires catalogued { IsCatalogued library.now }
-    requires counted { AreCounted (specs_in library.now) scripts.old }
-    ensures read { OnOk result (HasScript true (specs_in library.now) bytes.now scripts.old scripts.new) }
+    requires catalogued { IsCatalogued spec_set.now }
+    requires counted { AreCounted (specs_in spec_set.now) scripts.old }
+    ensures read { OnOk result (HasScript true (specs_in spec_set.now) bytes.now scripts.old scripts.new) }
     ensures fault { (fault : ScriptFault) → result ≡ Err (ScriptError.Bad fault)
-        → IsScriptFileFault true (specs_in library.now) scripts.old.count scripts.old.objects bytes.now fault }
+        → IsScriptFileFault true (specs_in spec_set.now) scripts.old.count scripts.old.objects bytes.now fault }
 {
     let Cut { rest, lines } = cut(alloc, bytes, &mut scripts.posted)?;
-    add_steps(alloc, rest.as_slice(), lines, library, scripts)
+    add_steps(alloc, rest.as_slice(), lines, spec_set, scripts)
 }
 
 /// The first of these names, up to the given count, under the same numbers.
@@ -311,22 +311,22 @@ fn add_steps(
     alloc: Global,
     bytes: &[u8],
     lines: Vec<SyncLine>,
-    library: &Library,
+    spec_set: &SpecSet,
     scripts: &mut Scripts,
 ) -> Result<(), ScriptError>
     requires small { length bytes.now ≤ most_bytes }
     requires few_steps { scripts.old.count ≤ most_steps }
     requires few_names { length scripts.old.objects ≤ most_objects }
-    requires catalogued { IsCatalogued library.now }
-    ensures read { OnOk result (HasSteps (specs_in library.now) bytes.now lines.items scripts.old scripts.new) }
+    requires catalogued { IsCatalogued spec_set.now }
+    ensures read { OnOk result (HasSteps (specs_in spec_set.now) bytes.now lines.items scripts.old scripts.new) }
     ensures fault { (fault : ScriptFault) → result ≡ Err (ScriptError.Bad fault)
-        → (meaning_over (specs_in library.now) scripts.old.count scripts.old.objects bytes.now).fault ≡ Some fault }
+        → (meaning_over (specs_in spec_set.now) scripts.old.count scripts.old.objects bytes.now).fault ≡ Some fault }
     ensures left { (fault : ScriptFault) → result ≡ Err (ScriptError.Bad fault) → AreLeft scripts.old scripts.new }
 {
     let script = read_compact(
         alloc,
         bytes,
-        &library.catalog,
+        &spec_set.catalog,
         &mut scripts.objects,
         &mut scripts.count,
     )?;

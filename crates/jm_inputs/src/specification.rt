@@ -20,7 +20,7 @@ use std::alloc::Global;
 /// the first word that names a grammar, whether it is for full bindings alone, whether `suffix` stands, and what its
 /// handlers print.
 #[derive(Drop)]
-pub struct Titles {
+pub struct SpecHeader {
     pub logics: Vec<Logic>,
     pub grammar_line: Option<u32>,
     pub full_binding: bool,
@@ -30,24 +30,24 @@ pub struct Titles {
 
 /// What is kept of a specification beside what its catalog has.
 #[derive(Drop)]
-pub struct Loaded {
-    pub titles: Titles,
+pub struct CompiledSpec {
+    pub header: SpecHeader,
     pub rules: Rules,
 }
 
 /// A specification that was read: its name, its parameters and events, and what is kept beside them.
 #[derive(Drop)]
-pub(crate) struct Reading<'a> {
+pub(crate) struct NamedSpec<'a> {
     pub name: &'a str,
     pub table: EventTable,
-    pub loaded: Loaded,
+    pub compiled: CompiledSpec,
 }
 
 /// The specification that the bytes say. The fault is that of the first step that has one.
 pub(crate) fn read_specification<'a>(
     alloc: Global,
     bytes: &'a [u8],
-) -> Result<Reading<'a>, SpecError>
+) -> Result<NamedSpec<'a>, SpecError>
     requires { length bytes.now ≤ most_bytes }
     ensures ok { IfOk result (IsRead bytes.now) }
     ensures err { (fault : SpecFault) → result ≡ Err (SpecError.Bad fault) → IsSpecFault bytes.now fault }
@@ -55,25 +55,25 @@ pub(crate) fn read_specification<'a>(
     let tokens = tokens(alloc, bytes)?;
     let tree = read_spec(alloc, bytes, tokens.as_slice())?;
     let rules = Rules::compile(alloc, bytes, tokens.as_slice(), &tree)?;
-    let titles = titles_of(alloc, bytes, tokens.as_slice(), &tree)?;
+    let header = header_of(alloc, bytes, tokens.as_slice(), &tree)?;
     let name = name_of(bytes, tree.name);
-    Ok(put_together(name, tree, rules, titles))
+    Ok(put_together(name, tree, rules, header))
 }
 
 /// What is kept of a tree beside its rules.
-fn titles_of(
+fn header_of(
     alloc: Global,
     bytes: &[u8],
     tokens: &[Token],
     tree: &SpecTree,
-) -> Result<Titles, SpecError>
+) -> Result<SpecHeader, SpecError>
     requires { LieWithin bytes.now tokens.now }
-    ensures logics { IfOk result (λ titles. titles.logics.items ≡ logics_of (properties_of tree.now)) }
-    ensures grammar_line { IfOk result (λ titles. titles.grammar_line ≡ grammar_line_of (properties_of tree.now)) }
-    ensures full_binding { IfOk result (λ titles. titles.full_binding ≡ tree.now.full_binding) }
-    ensures suffix { IfOk result (λ titles. titles.suffix ≡ is_some tree.now.suffix) }
-    ensures texts { IfOk result (λ titles. BlocksSay bytes.now tokens.now tree.now.table.parameters
-        (all_handlers (properties_of tree.now)) titles.texts.items) }
+    ensures logics { IfOk result (λ header. header.logics.items ≡ logics_of (properties_of tree.now)) }
+    ensures grammar_line { IfOk result (λ header. header.grammar_line ≡ grammar_line_of (properties_of tree.now)) }
+    ensures full_binding { IfOk result (λ header. header.full_binding ≡ tree.now.full_binding) }
+    ensures suffix { IfOk result (λ header. header.suffix ≡ is_some tree.now.suffix) }
+    ensures texts { IfOk result (λ header. BlocksSay bytes.now tokens.now tree.now.table.parameters
+        (all_handlers (properties_of tree.now)) header.texts.items) }
     ensures err { IfErr result (λ e. e ≡ SpecError.NoMemory) }
 {
     let texts = texts_of(
@@ -84,7 +84,7 @@ fn titles_of(
         tree.properties.as_slice(),
     )?;
     let logics = logics_of(alloc, tree.properties.as_slice())?;
-    Ok(Titles {
+    Ok(SpecHeader {
         logics,
         grammar_line: grammar_line(tree.properties.as_slice()),
         full_binding: tree.full_binding,
@@ -159,15 +159,20 @@ fn add_texts(
 }
 
 /// Puts together what was read of a specification.
-fn put_together<'a>(name: &'a str, tree: SpecTree, rules: Rules, titles: Titles) -> Reading<'a>
+fn put_together<'a>(
+    name: &'a str,
+    tree: SpecTree,
+    rules: Rules,
+    header: SpecHeader,
+) -> NamedSpec<'a>
     ensures name { result.name.now ≡ name.now }
     ensures table { result.table ≡ tree.table }
-    ensures titles { result.loaded.titles ≡ titles }
-    ensures rules { result.loaded.rules ≡ rules }
+    ensures header { result.compiled.header ≡ header }
+    ensures rules { result.compiled.rules ≡ rules }
 {
-    Reading {
+    NamedSpec {
         name,
         table: tree.table,
-        loaded: Loaded { titles, rules },
+        compiled: CompiledSpec { header, rules },
     }
 }

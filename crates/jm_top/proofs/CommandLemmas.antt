@@ -10,14 +10,14 @@ use Rattle.jm_inputs.specs.Inputs.{asked_by}
 use Rattle.jm_cli.specs.Words.CommandWords.{Replay, Run, Check, Coenable, Gen, Sweep, Audit}
 use Rattle.jm_inputs.specs.declared.status.Status.{Status}
 use Rattle.jm_inputs.specs.declared.status.Status.TheVariants.{ReadFailed}
-use Rattle.jm_inputs.specs.declared.library.Library.{Library}
+use Rattle.jm_inputs.specs.declared.spec_set.SpecSet.{SpecSet}
 use Rattle.jm_inputs.specs.declared.inputs.Inputs.{Inputs}
 use Rattle.jm_inputs.specs.Sources.{Named, Gives}
 use Rattle.jm_inputs.specs.Commands.{named, given_files, workload_specs, workload_scripts, most_of_history}
 use Rattle.jm_top.specs.Histories.{IsTextOfOrdered, IsTextOfSummaries}
 use Rattle.jm_top.specs.Texts.{declared_text, IsTextOfFamilies, IsTextOfVerdict}
 use Rattle.jm_inputs.specs.Causes.{IsNoRecordingIn}
-use Rattle.jm_inputs.specs.Reading.{specs_in, IsLibraryOf, AreInputsOf}
+use Rattle.jm_inputs.specs.Reading.{specs_in, IsSpecSetOf, AreInputsOf}
 use Rattle.jm_top.specs.Sweeps.{IsSweptWhole}
 use Rattle.jm_inputs.proofs.OneReadingLemmas.{same_err}
 use Rattle.jm_inputs.proofs.StopLemmas.{sweep_faulty, unread}
@@ -32,42 +32,42 @@ nothing_asked = none_sound [] (All-nil (λ (cut : Cut). cut.lines.items ≡ []))
 
 module _ (contents : List ℕ → Option (List ℕ)) where
   pub replay_made : (spec script : List ℕ) (inputs : Inputs) (text : List ℕ) → AreInputsOf contents true 0 (named (spec ∷ [])) (named (script ∷ [])) inputs
-      → IsTextOfOrdered (specs_in inputs.library) inputs.scripts.list.items (sync_of inputs.scripts.cuts.items) inputs.scripts.objects text → IsTextOfCommand contents (Replay spec script) text
+      → IsTextOfOrdered (specs_in inputs.spec_set) inputs.scripts.list.items (sync_of inputs.scripts.cuts.items) inputs.scripts.objects text → IsTextOfCommand contents (Replay spec script) text
   replay_made spec script inputs text h made = of_scripts (record {
-    specs = specs_in inputs.library;
+    specs = specs_in inputs.spec_set;
     scripts = inputs.scripts.list.items;
     objects = inputs.scripts.objects;
     texts = h.read.read.texts;
-    said = h.library.said;
+    said = h.spec_set.said;
     told = h.read.read.said;
     sound = subst AreSound h.read.read.asked h.read.sound;
     separate = refl;
     plain = refl;
-    is_text = subst (λ v. IsTextOfOrdered (specs_in inputs.library) inputs.scripts.list.items v inputs.scripts.objects text) h.read.read.asked made;
+    is_text = subst (λ v. IsTextOfOrdered (specs_in inputs.spec_set) inputs.scripts.list.items v inputs.scripts.objects text) h.read.read.asked made;
   })
 
   pub run_made : (specs scripts : List (List ℕ)) (inputs : Inputs) (text : List ℕ) → AreInputsOf contents true 0 (named specs) (named scripts) inputs
-      → IsTextOfOrdered (specs_in inputs.library) inputs.scripts.list.items (sync_of inputs.scripts.cuts.items) inputs.scripts.objects text → IsTextOfCommand contents (Run specs scripts) text
+      → IsTextOfOrdered (specs_in inputs.spec_set) inputs.scripts.list.items (sync_of inputs.scripts.cuts.items) inputs.scripts.objects text → IsTextOfCommand contents (Run specs scripts) text
   run_made specs scripts inputs text h made = of_scripts (record {
-    specs = specs_in inputs.library;
+    specs = specs_in inputs.spec_set;
     scripts = inputs.scripts.list.items;
     objects = inputs.scripts.objects;
     texts = h.read.read.texts;
-    said = h.library.said;
+    said = h.spec_set.said;
     told = h.read.read.said;
     sound = subst AreSound h.read.read.asked h.read.sound;
     separate = refl;
     plain = refl;
-    is_text = subst (λ v. IsTextOfOrdered (specs_in inputs.library) inputs.scripts.list.items v inputs.scripts.objects text) h.read.read.asked made;
+    is_text = subst (λ v. IsTextOfOrdered (specs_in inputs.spec_set) inputs.scripts.list.items v inputs.scripts.objects text) h.read.read.asked made;
   })
 
-  pub gen_made : (n : ℕ) (inputs : Inputs) (text : List ℕ) → AreInputsOf contents true 0 (given_files workload_specs) (given_files (workload_scripts n)) inputs → IsTextOfSummaries (specs_in inputs.library) inputs.scripts.list.items text → IsTextOfCommand contents (Gen n) text
+  pub gen_made : (n : ℕ) (inputs : Inputs) (text : List ℕ) → AreInputsOf contents true 0 (given_files workload_specs) (given_files (workload_scripts n)) inputs → IsTextOfSummaries (specs_in inputs.spec_set) inputs.scripts.list.items text → IsTextOfCommand contents (Gen n) text
   gen_made n inputs text h made = of_scripts (record {
-    specs = specs_in inputs.library;
+    specs = specs_in inputs.spec_set;
     scripts = inputs.scripts.list.items;
     objects = inputs.scripts.objects;
     texts = h.read.read.texts;
-    said = h.library.said;
+    said = h.spec_set.said;
     told = h.read.read.said;
     sound = subst AreSound h.read.read.asked h.read.sound;
     separate = refl;
@@ -77,29 +77,29 @@ module _ (contents : List ℕ → Option (List ℕ)) where
 
   pub audit_made : (history bytes : List ℕ) (specs scripts : List (List ℕ)) (inputs : Inputs) (text : List ℕ) → Gives contents (Named history) bytes → length bytes ≤ most_of_history
       → AreInputsOf contents false 198000 (named specs) (named scripts) inputs
-      → IsTextOfVerdict (specs_in inputs.library) inputs.scripts.list.items inputs.scripts.objects bytes text → IsTextOfCommand contents (Audit history specs scripts) text
+      → IsTextOfVerdict (specs_in inputs.spec_set) inputs.scripts.list.items inputs.scripts.objects bytes text → IsTextOfCommand contents (Audit history specs scripts) text
   audit_made history bytes specs scripts inputs text given small h made = of_audit (record {
     history = history;
     names = specs;
     files = scripts;
     bytes = bytes;
-    specs = specs_in inputs.library;
+    specs = specs_in inputs.spec_set;
     scripts = inputs.scripts.list.items;
     objects = inputs.scripts.objects;
     texts = h.read.read.texts;
     is = refl;
     given = given;
     small = small;
-    said = h.library.said;
+    said = h.spec_set.said;
     told = h.read.read.said;
     is_text = made;
   })
 
-  pub sweep_made : (spec recording bytes text : List ℕ) (library : Library) → IsLibraryOf contents false (named (spec ∷ [])) library → Gives contents (Named recording) bytes → IsSweptWhole (specs_in library) bytes text → IsTextOfCommand contents (Sweep spec recording) text
-  sweep_made spec recording bytes text library read given made = of_recording (record {
+  pub sweep_made : (spec recording bytes text : List ℕ) (spec_set : SpecSet) → IsSpecSetOf contents false (named (spec ∷ [])) spec_set → Gives contents (Named recording) bytes → IsSweptWhole (specs_in spec_set) bytes text → IsTextOfCommand contents (Sweep spec recording) text
+  sweep_made spec recording bytes text spec_set read given made = of_recording (record {
     spec = spec;
     recording = recording;
-    specs = specs_in library;
+    specs = specs_in spec_set;
     bytes = bytes;
     parts = made.parts;
     is = refl;
@@ -109,16 +109,16 @@ module _ (contents : List ℕ → Option (List ℕ)) where
     is_text = made.is_text;
   })
 
-  pub sweep_carried_out : (spec recording bytes : List ℕ) (library : Library) (r : Result (Vec ℕ) Status) → IsLibraryOf contents false (named (spec ∷ [])) library → Gives contents (Named recording) bytes → IfOk r (λ text. IsSweptWhole (specs_in library) bytes text.items)
-      → IfErr r (IsNoRecordingIn (specs_in library) bytes) → IsCarriedOut contents (Sweep spec recording) r
-  sweep_carried_out spec recording bytes library (Ok text) read given made none = sweep_made spec recording bytes text.items library read given made
-  sweep_carried_out spec recording bytes library (Err status) read given made none = sweep_faulty contents spec recording bytes library status read given none
+  pub sweep_carried_out : (spec recording bytes : List ℕ) (spec_set : SpecSet) (r : Result (Vec ℕ) Status) → IsSpecSetOf contents false (named (spec ∷ [])) spec_set → Gives contents (Named recording) bytes → IfOk r (λ text. IsSweptWhole (specs_in spec_set) bytes text.items)
+      → IfErr r (IsNoRecordingIn (specs_in spec_set) bytes) → IsCarriedOut contents (Sweep spec recording) r
+  sweep_carried_out spec recording bytes spec_set (Ok text) read given made none = sweep_made spec recording bytes text.items spec_set read given made
+  sweep_carried_out spec recording bytes spec_set (Err status) read given made none = sweep_faulty contents spec recording bytes spec_set status read given none
 
-  pub check_made : (specs : List (List ℕ)) (library : Library) (text : List ℕ) → IsLibraryOf contents false (named specs) library → text ≡ flat_map declared_text (specs_in library) → IsTextOfCommand contents (Check specs) text
-  check_made specs library text h made = of_scripts (record { specs = specs_in library; scripts = []; objects = []; texts = []; said = h.said; told = (refl, refl, refl); sound = nothing_asked; separate = refl; plain = refl; is_text = made })
+  pub check_made : (specs : List (List ℕ)) (spec_set : SpecSet) (text : List ℕ) → IsSpecSetOf contents false (named specs) spec_set → text ≡ flat_map declared_text (specs_in spec_set) → IsTextOfCommand contents (Check specs) text
+  check_made specs spec_set text h made = of_scripts (record { specs = specs_in spec_set; scripts = []; objects = []; texts = []; said = h.said; told = (refl, refl, refl); sound = nothing_asked; separate = refl; plain = refl; is_text = made })
 
-  pub coenable_made : (specs : List (List ℕ)) (library : Library) (text : List ℕ) → IsLibraryOf contents true (named specs) library → IsTextOfFamilies (specs_in library) text → IsTextOfCommand contents (Coenable specs) text
-  coenable_made specs library text h made = of_scripts (record { specs = specs_in library; scripts = []; objects = []; texts = []; said = h.said; told = (refl, refl, refl); sound = nothing_asked; separate = refl; plain = refl; is_text = made })
+  pub coenable_made : (specs : List (List ℕ)) (spec_set : SpecSet) (text : List ℕ) → IsSpecSetOf contents true (named specs) spec_set → IsTextOfFamilies (specs_in spec_set) text → IsTextOfCommand contents (Coenable specs) text
+  coenable_made specs spec_set text h made = of_scripts (record { specs = specs_in spec_set; scripts = []; objects = []; texts = []; said = h.said; told = (refl, refl, refl); sound = nothing_asked; separate = refl; plain = refl; is_text = made })
 
 module _ (contents : List ℕ → Option (List ℕ)) (file : ℕ) where
   -- so none fails to be read

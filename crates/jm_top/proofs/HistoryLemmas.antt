@@ -33,9 +33,9 @@ use Rattle.jm_script.specs.declared.script.ScriptLine.{ScriptLine}
 use Rattle.jm_machine.specs.Meanings.{RuleDefinition, handler_count, rules_meaning}
 use Rattle.jm_machine.specs.HandlerNames.{names_of}
 use Rattle.jm_top.proofs.NameLemmas.{count_names}
-use Rattle.jm_inputs.specs.declared.specification.Titles.{Titles}
-use Rattle.jm_inputs.specs.declared.specification.Loaded.{Loaded}
-use Rattle.jm_inputs.specs.declared.library.Library.{Library}
+use Rattle.jm_inputs.specs.declared.specification.SpecHeader.{SpecHeader}
+use Rattle.jm_inputs.specs.declared.specification.CompiledSpec.{CompiledSpec}
+use Rattle.jm_inputs.specs.declared.spec_set.SpecSet.{SpecSet}
 use Rattle.jm_inputs.specs.declared.scripts.Scripts.{Scripts}
 use Rattle.jm_inputs.specs.Scripts.{catalog_of}
 use Rattle.jm_inputs.specs.Reading.{named_entry, listing, listed, listed_in, AreRulesOf, titled, specification_of, IsWhole, specs_in, IsCatalogued, AreCounted}
@@ -126,28 +126,28 @@ module _ (entry : CatalogEntry) (rules : RuleDefinition) (whole : AreRulesOf ent
       subst (λ m. m < 2 ^ length entry.table.parameters) (sym (mask_of_rules e)) (small_masks rules.masks (2 ^ length entry.table.parameters) (power_some (length entry.table.parameters)) whole.fit e)
 
   -- and has names
-  pub fitting_named : (titles : Titles) (objects : List (List ℕ)) (x : Step) → FitsSpecification catalog (length objects) number x → IsNamedStep (lexicon objects (titled entry titles rules)) x
-  fitting_named titles objects (Event e b) fits = (
+  pub fitting_named : (header : SpecHeader) (objects : List (List ℕ)) (x : Step) → FitsSpecification catalog (length objects) number x → IsNamedStep (lexicon objects (titled entry header rules)) x
+  fitting_named header objects (Event e b) fits = (
     subst (λ n. e.0 < n) (sym (length-map entry.table.events (λ (x : EventDefinition). x.name))) (subst (λ (x : EventDefinitions). e.0 < length x.events) there fits.event.event),
     λ p o at. (bound_parameter b (length entry.table.parameters) p o (subst (λ m. m < 2 ^ length entry.table.parameters) (sym fits.event.parameters) (small_params e.0)) at, named_object b (length objects) p o fits.named at),
   )
-  fitting_named titles objects (Death o) fits = fits
-  fitting_named titles objects Pass fits = tt
+  fitting_named header objects (Death o) fits = fits
+  fitting_named header objects Pass fits = tt
 
   -- steps that fit it may be done
   pub doable : (own : List (ℕ × Step)) (n : ℕ) → All (λ step. FitsSpecification catalog n number step.1) own → All (λ step. IsFitStep (rules_meaning rules) n step.1) own
   doable own n fits = All-weaker (λ (step : ℕ × Step). FitsSpecification catalog n number step.1) (λ (step : ℕ × Step). IsFitStep (rules_meaning rules) n step.1) (λ step. fitting_step n step.1) own fits
 
   -- a history of such steps can be printed
-  pub history_printable : (titles : Titles) (objects : List (List ℕ)) (lists : List (List (ℕ × Step))) (h : List Entry)
+  pub history_printable : (header : SpecHeader) (objects : List (List ℕ)) (lists : List (List (ℕ × Step))) (h : List Entry)
       → ((k : ℕ) (own : List (ℕ × Step)) → slice_get lists k ≡ Some own → All (λ step. FitsSpecification catalog (length objects) number step.1) own)
-      → IsLegal (rules_meaning rules) h → IsInterleaving h lists → All (IsPrintable (lexicon objects (titled entry titles rules))) h
-  history_printable titles objects lists h fits legal woven =
-      let names = lexicon objects (titled entry titles rules) in
+      → IsLegal (rules_meaning rules) h → IsInterleaving h lists → All (IsPrintable (lexicon objects (titled entry header rules))) h
+  history_printable header objects lists h fits legal woven =
+      let names = lexicon objects (titled entry header rules) in
       let few : handler_count rules.properties ≤ length (names_of rules) = omega (arith, count_names rules) in
       let each : All (λ (e : Entry). IsNamedStep names e.step) h =
       entries_of_lists (λ (x : Step). IsNamedStep names x) lists h
-      (λ k own at. All-weaker (λ (step : ℕ × Step). FitsSpecification catalog (length objects) number step.1) (λ (step : ℕ × Step). IsNamedStep names step.1) (λ step. fitting_named titles objects step.1) own (fits k own at)) woven in
+      (λ k own at. All-weaker (λ (step : ℕ × Step). FitsSpecification catalog (length objects) number step.1) (λ (step : ℕ × Step). IsNamedStep names step.1) (λ step. fitting_named header objects step.1) own (fits k own at)) woven in
       printable names (rules_meaning rules) few h each woven.done legal
 
 -- all entries are those of the one caller
@@ -239,25 +239,25 @@ one_list : (own : List (ℕ × Step)) (k : ℕ) (list : List (ℕ × Step)) → 
 one_list own zero list at = sym (same_some at)
 one_list own (suc k) list at = absurd (none-some list at)
 
-pub replay_printable : (entry : CatalogEntry) (titles : Titles) (rules : RuleDefinition) (catalog : List CatalogEntry) → AreRulesOf entry rules → table_of catalog 0 ≡ entry.table → (objects : List (List ℕ)) (own : List (ℕ × Step)) (h : List Entry)
-    → All (λ step. FitsSpecification catalog (length objects) 0 step.1) own → IsReplayOf (rules_meaning rules) own h → All (IsPrintable (lexicon objects (titled entry titles rules))) h
-replay_printable entry titles rules catalog whole there objects own h fits is =
-    history_printable entry rules whole catalog 0 there titles objects (own ∷ []) h
+pub replay_printable : (entry : CatalogEntry) (header : SpecHeader) (rules : RuleDefinition) (catalog : List CatalogEntry) → AreRulesOf entry rules → table_of catalog 0 ≡ entry.table → (objects : List (List ℕ)) (own : List (ℕ × Step)) (h : List Entry)
+    → All (λ step. FitsSpecification catalog (length objects) 0 step.1) own → IsReplayOf (rules_meaning rules) own h → All (IsPrintable (lexicon objects (titled entry header rules))) h
+replay_printable entry header rules catalog whole there objects own h fits is =
+    history_printable entry rules whole catalog 0 there header objects (own ∷ []) h
     (λ k list at. subst (All (λ (step : ℕ × Step). FitsSpecification catalog (length objects) 0 step.1)) (sym (one_list own k list at)) fits) is.legal is.woven
 
-pub replay_text : (entry : CatalogEntry) (titles : Titles) (rules : RuleDefinition) (script : List ScriptLine) (objects : List (List ℕ)) (text : List ℕ)
-    → IsPrintedReplay (rules_meaning rules) (projection_of (script_of script) 0) (lexicon objects (titled entry titles rules)) text → IsTextOfHistories (titled entry titles rules ∷ []) (script ∷ []) objects text
-replay_text entry titles rules script objects text h = record {
+pub replay_text : (entry : CatalogEntry) (header : SpecHeader) (rules : RuleDefinition) (script : List ScriptLine) (objects : List (List ℕ)) (text : List ℕ)
+    → IsPrintedReplay (rules_meaning rules) (projection_of (script_of script) 0) (lexicon objects (titled entry header rules)) text → IsTextOfHistories (titled entry header rules ∷ []) (script ∷ []) objects text
+replay_text entry header rules script objects text h = record {
   histories = h.history ∷ [];
   each = (record { legal = h.replayed.legal; woven = h.replayed.woven }, tt);
-  printed = h.printed ∙ sym (append-nil (history_text (lexicon objects (titled entry titles rules)) h.history));
+  printed = h.printed ∙ sym (append-nil (history_text (lexicon objects (titled entry header rules)) h.history));
 }
 
-ordered_text : (entry : CatalogEntry) (titles : Titles) (rules : RuleDefinition) (script : List ScriptLine) (objects : List (List ℕ)) (asked : List (List SyncLine)) (text : List ℕ)
-    → (h : IsPrintedReplay (rules_meaning rules) (projection_of (script_of script) 0) (lexicon objects (titled entry titles rules)) text) → IsOrdered h.history asked → IsTextOfOrdered (titled entry titles rules ∷ []) (script ∷ []) asked objects text
+ordered_text : (entry : CatalogEntry) (header : SpecHeader) (rules : RuleDefinition) (script : List ScriptLine) (objects : List (List ℕ)) (asked : List (List SyncLine)) (text : List ℕ)
+    → (h : IsPrintedReplay (rules_meaning rules) (projection_of (script_of script) 0) (lexicon objects (titled entry header rules)) text) → IsOrdered h.history asked → IsTextOfOrdered (titled entry header rules ∷ []) (script ∷ []) asked objects text
 unfolding replay_text
-ordered_text entry titles rules script objects asked text h ordered =
-    let made = replay_text entry titles rules script objects text h in
+ordered_text entry header rules script objects asked text h ordered =
+    let made = replay_text entry header rules script objects text h in
     record { histories = made.histories; each = made.each; ordered = All-cons (λ (x : List Entry). IsOrdered x asked) h.history [] ordered (All-nil (λ (x : List Entry). IsOrdered x asked)); printed = made.printed }
 
 single_of : {X : Type 0} (xs ys : List X) (x : X) → xs ≡ ys ++ x ∷ [] → length xs ≡ 1 → xs ≡ x ∷ []
@@ -275,53 +275,53 @@ first_entry [] name table one named there = absurd (omega (arith, one))
 first_entry (e ∷ []) name table one named there = let same : e ≡ named_entry name table = (λ i. named_entry (same_some named i) (same_some there i)) in ap (λ v. v ∷ []) same
 first_entry (e ∷ d ∷ es) name table one named there = absurd (omega (arith, one))
 
--- the specification of a library of one
-module _ (library : Library) (catalogued : IsCatalogued library) (rest : List Loaded) (l : Loaded) (popped : library.specs.items ≡ rest ++ l ∷ []) (one : length library.specs.items ≡ 1) (name : List ℕ) (table : EventDefinitions) (named : option_map (λ e. e.name) (slice_get library.catalog 0) ≡ Some name) (there : option_map (λ e. e.table) (slice_get library.catalog 0) ≡ Some table) where
-  alone : listed_in library ≡ listing (named_entry name table) l ∷ []
+-- the specification of a spec set of one
+module _ (spec_set : SpecSet) (catalogued : IsCatalogued spec_set) (rest : List CompiledSpec) (l : CompiledSpec) (popped : spec_set.specs.items ≡ rest ++ l ∷ []) (one : length spec_set.specs.items ≡ 1) (name : List ℕ) (table : EventDefinitions) (named : option_map (λ e. e.name) (slice_get spec_set.catalog 0) ≡ Some name) (there : option_map (λ e. e.table) (slice_get spec_set.catalog 0) ≡ Some table) where
+  alone : listed_in spec_set ≡ listing (named_entry name table) l ∷ []
   alone =
-      let entries = first_entry library.catalog name table (catalogued.many ∙ one) named there in
-      let kept = single_of library.specs.items rest l popped one in
+      let entries = first_entry spec_set.catalog name table (catalogued.many ∙ one) named there in
+      let kept = single_of spec_set.specs.items rest l popped one in
       λ i. listed (entries i) (kept i)
 
-  pub alone_is : specs_in library ≡ specification_of (listing (named_entry name table) l) ∷ []
+  pub alone_is : specs_in spec_set ≡ specification_of (listing (named_entry name table) l) ∷ []
   alone_is = ap (λ v. map specification_of v) alone
 
   pub alone_whole : IsWhole (listing (named_entry name table) l)
   alone_whole = All-head IsWhole (listing (named_entry name table) l) [] (subst (All IsWhole) alone catalogued.kept)
 
-  pub alone_there : table_of (catalog_of (specs_in library)) 0 ≡ table
+  pub alone_there : table_of (catalog_of (specs_in spec_set)) 0 ≡ table
   alone_there = ap (λ v. table_of (catalog_of v) 0) alone_is
 
-module _ (library : Library) (catalogued : IsCatalogued library) (scripts : Scripts) (counted : AreCounted (specs_in library) scripts) (one_script : length scripts.list.items ≡ 1) (others : List (List ScriptLine)) (script : List ScriptLine) (taken : scripts.list.items ≡ others ++ script ∷ []) where
+module _ (spec_set : SpecSet) (catalogued : IsCatalogued spec_set) (scripts : Scripts) (counted : AreCounted (specs_in spec_set) scripts) (one_script : length scripts.list.items ≡ 1) (others : List (List ScriptLine)) (script : List ScriptLine) (taken : scripts.list.items ≡ others ++ script ∷ []) where
   pub script_alone : scripts.list.items ≡ script ∷ []
   script_alone = single_of scripts.list.items others script taken one_script
 
-  pub script_fits : FitsCatalog (catalog_of (specs_in library)) (length scripts.objects) script
-  script_fits = All-head (FitsCatalog (catalog_of (specs_in library)) (length scripts.objects)) script [] (subst (All (FitsCatalog (catalog_of (specs_in library)) (length scripts.objects))) script_alone counted.fit)
+  pub script_fits : FitsCatalog (catalog_of (specs_in spec_set)) (length scripts.objects) script
+  script_fits = All-head (FitsCatalog (catalog_of (specs_in spec_set)) (length scripts.objects)) script [] (subst (All (FitsCatalog (catalog_of (specs_in spec_set)) (length scripts.objects))) script_alone counted.fit)
 
-  module _ (rest : List Loaded) (l : Loaded) (popped : library.specs.items ≡ rest ++ l ∷ []) (one : length library.specs.items ≡ 1) (name : List ℕ) (table : EventDefinitions) (named : option_map (λ e. e.name) (slice_get library.catalog 0) ≡ Some name) (there : option_map (λ e. e.table) (slice_get library.catalog 0) ≡ Some table) (own : List (ℕ × Step)) (fits : All (λ step. FitsSpecification (catalog_of (specs_in library)) (length scripts.objects) 0 step.1) own) where
+  module _ (rest : List CompiledSpec) (l : CompiledSpec) (popped : spec_set.specs.items ≡ rest ++ l ∷ []) (one : length spec_set.specs.items ≡ 1) (name : List ℕ) (table : EventDefinitions) (named : option_map (λ e. e.name) (slice_get spec_set.catalog 0) ≡ Some name) (there : option_map (λ e. e.table) (slice_get spec_set.catalog 0) ≡ Some table) (own : List (ℕ × Step)) (fits : All (λ step. FitsSpecification (catalog_of (specs_in spec_set)) (length scripts.objects) 0 step.1) own) where
     whole : AreRulesOf (named_entry name table) l.rules.definition
-    whole = alone_whole library catalogued rest l popped one name table named there
+    whole = alone_whole spec_set catalogued rest l popped one name table named there
 
-    at_first : table_of (catalog_of (specs_in library)) 0 ≡ table
-    at_first = alone_there library catalogued rest l popped one name table named there
+    at_first : table_of (catalog_of (specs_in spec_set)) 0 ≡ table
+    at_first = alone_there spec_set catalogued rest l popped one name table named there
 
     pub own_doable : All (λ step. IsFitStep (rules_meaning l.rules.definition) (length scripts.objects) step.1) own
-    own_doable = doable (named_entry name table) l.rules.definition whole (catalog_of (specs_in library)) 0 at_first own (length scripts.objects) fits
+    own_doable = doable (named_entry name table) l.rules.definition whole (catalog_of (specs_in spec_set)) 0 at_first own (length scripts.objects) fits
 
-    pub own_printable : (h : List Entry) → IsReplayOf (rules_meaning l.rules.definition) own h → All (IsPrintable (lexicon scripts.objects (titled (named_entry name table) l.titles l.rules.definition))) h
-    own_printable h is = replay_printable (named_entry name table) l.titles l.rules.definition (catalog_of (specs_in library)) whole at_first scripts.objects own h fits is
+    pub own_printable : (h : List Entry) → IsReplayOf (rules_meaning l.rules.definition) own h → All (IsPrintable (lexicon scripts.objects (titled (named_entry name table) l.header l.rules.definition))) h
+    own_printable h is = replay_printable (named_entry name table) l.header l.rules.definition (catalog_of (specs_in spec_set)) whole at_first scripts.objects own h fits is
 
-    pub own_text : own ≡ projection_of (script_of script) 0 → AreSound (sync_of scripts.cuts.items) → (text : List ℕ) → IsPrintedReplay (rules_meaning l.rules.definition) own (lexicon scripts.objects (titled (named_entry name table) l.titles l.rules.definition)) text
-        → IsTextOfOrdered (specs_in library) scripts.list.items (sync_of scripts.cuts.items) scripts.objects text
+    pub own_text : own ≡ projection_of (script_of script) 0 → AreSound (sync_of scripts.cuts.items) → (text : List ℕ) → IsPrintedReplay (rules_meaning l.rules.definition) own (lexicon scripts.objects (titled (named_entry name table) l.header l.rules.definition)) text
+        → IsTextOfOrdered (specs_in spec_set) scripts.list.items (sync_of scripts.cuts.items) scripts.objects text
     own_text is sound text printed =
-        let replayed = subst (λ v. IsPrintedReplay (rules_meaning l.rules.definition) v (lexicon scripts.objects (titled (named_entry name table) l.titles l.rules.definition)) text) is printed in
+        let replayed = subst (λ v. IsPrintedReplay (rules_meaning l.rules.definition) v (lexicon scripts.objects (titled (named_entry name table) l.header l.rules.definition)) text) is printed in
         let rising = All-head (RisesFrom 1) script [] (subst (All (RisesFrom 1)) script_alone counted.steps_rise) in
         let one_cut : length (sync_of scripts.cuts.items) ≡ 1 = length-sync_of scripts.cuts.items ∙ counted.cut ∙ one_script in
         let ordered = lone_order script replayed.history (sync_of scripts.cuts.items) rising replayed.replayed.woven one_cut sound (All-map (λ (lines : List SyncLine). SyncRisesFrom 1 lines) (λ (c : Cut). c.lines.items) scripts.cuts.items counted.rising) in
-        let made = ordered_text (named_entry name table) l.titles l.rules.definition script scripts.objects (sync_of scripts.cuts.items) text replayed ordered in
-        subst (λ v. IsTextOfOrdered v scripts.list.items (sync_of scripts.cuts.items) scripts.objects text) (sym (alone_is library catalogued rest l popped one name table named there))
-        (subst (λ v. IsTextOfOrdered (titled (named_entry name table) l.titles l.rules.definition ∷ []) v (sync_of scripts.cuts.items) scripts.objects text) (sym script_alone) made)
+        let made = ordered_text (named_entry name table) l.header l.rules.definition script scripts.objects (sync_of scripts.cuts.items) text replayed ordered in
+        subst (λ v. IsTextOfOrdered v scripts.list.items (sync_of scripts.cuts.items) scripts.objects text) (sym (alone_is spec_set catalogued rest l popped one name table named there))
+        (subst (λ v. IsTextOfOrdered (titled (named_entry name table) l.header l.rules.definition ∷ []) v (sync_of scripts.cuts.items) scripts.objects text) (sym script_alone) made)
 
 -- its text, where there is one
 pub made_text : {T E : Type 0} (items : T → List ℕ) (P Q : List ℕ → Type 0) (made : Result T E) → ((text : List ℕ) → P text → Q text) → IfOk made (λ text. P (items text)) → IfOk made (λ text. Q (items text))

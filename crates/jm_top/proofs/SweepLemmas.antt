@@ -21,8 +21,8 @@ use Rattle.jm_script.specs.declared.script.ScriptLine.{ScriptLine}
 use Rattle.jm_semantics.specs.Scripts.{projection_of}
 use Rattle.jm_sweep.specs.Recordings.{parts_of, span_text, LiesWithin}
 use Rattle.jm_sweep.specs.Sweeps.{Fits, IsReplayOfPart}
-use Rattle.jm_inputs.specs.declared.library.Library.{Library}
-use Rattle.jm_inputs.specs.declared.specification.Loaded.{Loaded}
+use Rattle.jm_inputs.specs.declared.spec_set.SpecSet.{SpecSet}
+use Rattle.jm_inputs.specs.declared.specification.CompiledSpec.{CompiledSpec}
 use Rattle.jm_inputs.specs.declared.status.Status.{Status}
 use Rattle.jm_inputs.specs.declared.status.Status.TheVariants.{Done, Usage, BadSpec, BadScript, ReadFailed, WriteFailed, NoMemory, BadHistory}
 use Rattle.jm_top.specs.declared.sweep.Piece.{Piece}
@@ -43,8 +43,8 @@ use Rattle.jm_top.proofs.SweptLemmas.{swept_more, swept_fault}
 pub is_replay : (m : Meaning) (steps : List (ℕ × Step)) (h : List Entry) → IsReplayOfPart m steps h → IsReplayOf m steps h
 is_replay m steps h is = record { legal = is.legal; woven = woven steps h is.each is.done }
 
-pub can_replay : (library : Library) (bytes : List ℕ) → IsOfOne library → length bytes ≤ most_bytes → (spans : List (ℕ × ℕ)) → All (LiesWithin bytes) spans → All (CanReplay library bytes) spans
-can_replay library bytes one small spans within = All-weaker (LiesWithin bytes) (CanReplay library bytes) (λ span h. record { of_one = one; small = small; within = h }) spans within
+pub can_replay : (spec_set : SpecSet) (bytes : List ℕ) → IsOfOne spec_set → length bytes ≤ most_bytes → (spans : List (ℕ × ℕ)) → All (LiesWithin bytes) spans → All (CanReplay spec_set bytes) spans
+can_replay spec_set bytes one small spans within = All-weaker (LiesWithin bytes) (CanReplay spec_set bytes) (λ span h. record { of_one = one; small = small; within = h }) spans within
 
 pub are_replays : {E : Type 0} (m : Meaning) (steps : List (ℕ × Step)) (r : Result (List Entry) E) → IfOk r (λ h. IsReplayOfPart m steps h) → IfOk r (λ h. IsReplayOf m steps h)
 are_replays m steps (Ok h) is = is_replay m steps h is
@@ -72,27 +72,27 @@ module _ (specs : List Specification) (catalog : List CatalogEntry) (over : cata
 
 -- ---- its steps, over the one specification
 
-module _ (library : Library) (is : IsOfOne library) (l : Loaded) (here : l ≡ get_or library.specs.items 0 l) (name : List ℕ) (table : EventDefinitions) (named : option_map (λ e. e.name) (slice_get library.catalog 0) ≡ Some name) (there : option_map (λ e. e.table) (slice_get library.catalog 0) ≡ Some table) (objects : List (List ℕ)) (own : List (ℕ × Step)) (fits : All (λ step. FitsSpecification (catalog_of (specs_in library)) (length objects) 0 step.1) own) where
-  alone : library.specs.items ≡ [] ++ l ∷ []
-  alone = first_of library.specs.items l is.one here
+module _ (spec_set : SpecSet) (is : IsOfOne spec_set) (l : CompiledSpec) (here : l ≡ get_or spec_set.specs.items 0 l) (name : List ℕ) (table : EventDefinitions) (named : option_map (λ e. e.name) (slice_get spec_set.catalog 0) ≡ Some name) (there : option_map (λ e. e.table) (slice_get spec_set.catalog 0) ≡ Some table) (objects : List (List ℕ)) (own : List (ℕ × Step)) (fits : All (λ step. FitsSpecification (catalog_of (specs_in spec_set)) (length objects) 0 step.1) own) where
+  alone : spec_set.specs.items ≡ [] ++ l ∷ []
+  alone = first_of spec_set.specs.items l is.one here
 
   whole : AreRulesOf (named_entry name table) l.rules.definition
-  whole = alone_whole library is.catalogued [] l alone is.one name table named there
+  whole = alone_whole spec_set is.catalogued [] l alone is.one name table named there
 
-  at_first : table_of (catalog_of (specs_in library)) 0 ≡ table
-  at_first = alone_there library is.catalogued [] l alone is.one name table named there
+  at_first : table_of (catalog_of (specs_in spec_set)) 0 ≡ table
+  at_first = alone_there spec_set is.catalogued [] l alone is.one name table named there
 
   pub part_fits : (n : ℕ) → n ≡ length objects → Fits (rules_meaning l.rules.definition) n own
-  part_fits n many = subst (λ k. Fits (rules_meaning l.rules.definition) k own) (sym many) (doable (named_entry name table) l.rules.definition whole (catalog_of (specs_in library)) 0 at_first own (length objects) fits)
+  part_fits n many = subst (λ k. Fits (rules_meaning l.rules.definition) k own) (sym many) (doable (named_entry name table) l.rules.definition whole (catalog_of (specs_in spec_set)) 0 at_first own (length objects) fits)
 
-  pub part_printable : (h : List Entry) → IsReplayOf (rules_meaning l.rules.definition) own h → All (IsPrintable (lexicon objects (titled (named_entry name table) l.titles l.rules.definition))) h
-  part_printable h replayed = replay_printable (named_entry name table) l.titles l.rules.definition (catalog_of (specs_in library)) whole at_first objects own h fits replayed
+  pub part_printable : (h : List Entry) → IsReplayOf (rules_meaning l.rules.definition) own h → All (IsPrintable (lexicon objects (titled (named_entry name table) l.header l.rules.definition))) h
+  part_printable h replayed = replay_printable (named_entry name table) l.header l.rules.definition (catalog_of (specs_in spec_set)) whole at_first objects own h fits replayed
 
-  pub part_text : (script : List ScriptLine) → own ≡ projection_of (script_of script) 0 → (text : List ℕ) → IsPrintedReplay (rules_meaning l.rules.definition) own (lexicon objects (titled (named_entry name table) l.titles l.rules.definition)) text
-      → IsTextOfHistories (specs_in library) (script ∷ []) objects text
+  pub part_text : (script : List ScriptLine) → own ≡ projection_of (script_of script) 0 → (text : List ℕ) → IsPrintedReplay (rules_meaning l.rules.definition) own (lexicon objects (titled (named_entry name table) l.header l.rules.definition)) text
+      → IsTextOfHistories (specs_in spec_set) (script ∷ []) objects text
   part_text script projected text printed =
-      let made = replay_text (named_entry name table) l.titles l.rules.definition script objects text (subst (λ v. IsPrintedReplay (rules_meaning l.rules.definition) v (lexicon objects (titled (named_entry name table) l.titles l.rules.definition)) text) projected printed) in
-      subst (λ v. IsTextOfHistories v (script ∷ []) objects text) (sym (alone_is library is.catalogued [] l alone is.one name table named there)) made
+      let made = replay_text (named_entry name table) l.header l.rules.definition script objects text (subst (λ v. IsPrintedReplay (rules_meaning l.rules.definition) v (lexicon objects (titled (named_entry name table) l.header l.rules.definition)) text) projected printed) in
+      subst (λ v. IsTextOfHistories v (script ∷ []) objects text) (sym (alone_is spec_set is.catalogued [] l alone is.one name table named there)) made
 
 -- ---- its text after those of other parts
 
@@ -153,23 +153,23 @@ at_place [] i x at = absurd (none-some x at)
 at_place (y ∷ xs) zero x at = sym (same_some at)
 at_place (y ∷ xs) (suc i) x at = at_place xs i x at
 
-module _ (library : Library) (bytes : List ℕ) (spans : List (ℕ × ℕ)) (split : map (span_text bytes) spans ≡ parts_of bytes) where
+module _ (spec_set : SpecSet) (bytes : List ℕ) (spans : List (ℕ × ℕ)) (split : map (span_text bytes) spans ≡ parts_of bytes) where
   -- a turn
-  pub turn_ok : (i : ℕ) (span : ℕ × ℕ) → i < length spans → span ≡ get_or spans i span → (count : ℕ) (old new : List ℕ) (count_then : ℕ) → IsSwept (specs_in library) (map (span_text bytes) (take i spans)) count old
-      → HasPart (specs_in library) count (span_text bytes span) old new count_then → IsSwept (specs_in library) (map (span_text bytes) (take (i + 1) spans)) count_then new
+  pub turn_ok : (i : ℕ) (span : ℕ × ℕ) → i < length spans → span ≡ get_or spans i span → (count : ℕ) (old new : List ℕ) (count_then : ℕ) → IsSwept (specs_in spec_set) (map (span_text bytes) (take i spans)) count old
+      → HasPart (specs_in spec_set) count (span_text bytes span) old new count_then → IsSwept (specs_in spec_set) (map (span_text bytes) (take (i + 1) spans)) count_then new
   turn_ok i span lt here count old new count_then before h =
       let more : map (span_text bytes) (take (i + 1) spans) ≡ map (span_text bytes) (take i spans) ++ span_text bytes span ∷ [] =
       ap (map (span_text bytes)) (take_more spans i span lt ∙ ap (λ v. take i spans ++ v ∷ []) (sym here)) ∙ map-append (span_text bytes) (take i spans) (span ∷ []) in
-      subst (λ v. IsSwept (specs_in library) v count_then new) (sym more) (swept_more (specs_in library) (map (span_text bytes) (take i spans)) count old (span_text bytes span) new count_then before h)
+      subst (λ v. IsSwept (specs_in spec_set) v count_then new) (sym more) (swept_more (specs_in spec_set) (map (span_text bytes) (take i spans)) count old (span_text bytes span) new count_then before h)
 
-  pub turn_err : length bytes ≤ most_bytes → (i : ℕ) (span : ℕ × ℕ) → i < length spans → span ≡ get_or spans i span → (count : ℕ) (old : List ℕ) → IsSwept (specs_in library) (map (span_text bytes) (take i spans)) count old → (status : Status)
-      → IsNoScriptIn (specs_in library) count [] i (span_text bytes span) status → IsNoRecordingIn (specs_in library) bytes status
+  pub turn_err : length bytes ≤ most_bytes → (i : ℕ) (span : ℕ × ℕ) → i < length spans → span ≡ get_or spans i span → (count : ℕ) (old : List ℕ) → IsSwept (specs_in spec_set) (map (span_text bytes) (take i spans)) count old → (status : Status)
+      → IsNoScriptIn (specs_in spec_set) count [] i (span_text bytes span) status → IsNoRecordingIn (specs_in spec_set) bytes status
   turn_err small i span lt here count old before (BadScript number fault) h =
       let whole : spans ≡ take i spans ++ span ∷ drop (i + 1) spans = sym (take-append-drop i spans) ∙ ap (λ v. take i spans ++ v) (drop_more spans i span lt ∙ ap (λ v. v ∷ drop (i + 1) spans) (sym here)) in
       let parted : parts_of bytes ≡ map (span_text bytes) (take i spans) ++ span_text bytes span ∷ map (span_text bytes) (drop (i + 1) spans) =
       sym split ∙ ap (map (span_text bytes)) whole ∙ map-append (span_text bytes) (take i spans) (span ∷ drop (i + 1) spans) in
       let many : length (map (span_text bytes) (take i spans)) ≡ i = length-map (take i spans) (span_text bytes) ∙ length-take-le i spans (omega (arith, lt)) in
-      swept_fault (specs_in library) bytes (map (span_text bytes) (take i spans)) (map (span_text bytes) (drop (i + 1) spans)) (span_text bytes span) count old number fault small parted (h.0 ∙ sym many) before h.1
+      swept_fault (specs_in spec_set) bytes (map (span_text bytes) (take i spans)) (map (span_text bytes) (drop (i + 1) spans)) (span_text bytes span) count old number fault small parted (h.0 ∙ sym many) before h.1
   turn_err small i span lt here count old before NoMemory h = tt
   turn_err small i span lt here count old before Done h = absurd h
   turn_err small i span lt here count old before Usage h = absurd h
@@ -178,11 +178,11 @@ module _ (library : Library) (bytes : List ℕ) (spans : List (ℕ × ℕ)) (spl
   turn_err small i span lt here count old before WriteFailed h = absurd h
   turn_err small i span lt here count old before BadHistory h = absurd h
 
-  pub all_turns : length bytes ≤ most_bytes → (i : ℕ) → length spans ≤ i → (count : ℕ) (text : List ℕ) → IsSwept (specs_in library) (map (span_text bytes) (take i spans)) count text → IsSweptWhole (specs_in library) bytes text
+  pub all_turns : length bytes ≤ most_bytes → (i : ℕ) → length spans ≤ i → (count : ℕ) (text : List ℕ) → IsSwept (specs_in spec_set) (map (span_text bytes) (take i spans)) count text → IsSweptWhole (specs_in spec_set) bytes text
   all_turns small i all count text h =
       let whole : map (span_text bytes) (take i spans) ≡ parts_of bytes = ap (map (span_text bytes)) (take_all i spans all) ∙ split in
       record {
         parts = h.parts;
-        said = record { small = small; said = subst (λ v. SayParts (specs_in library) 0 v h.parts) whole h.said };
+        said = record { small = small; said = subst (λ v. SayParts (specs_in spec_set) 0 v h.parts) whole h.said };
         is_text = h.is_text;
       }

@@ -12,8 +12,8 @@ use Rattle.jm_print.specs.Told.{texts_of}
 use Rattle.jm_print.specs.Summaries.{summary_text}
 use Rattle.jm_events.specs.Events.{EventDefinitions}
 use Rattle.jm_script.specs.Catalogs.{CatalogEntry}
-use Rattle.jm_inputs.specs.declared.specification.Titles.{Titles}
-use Rattle.jm_inputs.specs.declared.specification.Loaded.{Loaded}
+use Rattle.jm_inputs.specs.declared.specification.SpecHeader.{SpecHeader}
+use Rattle.jm_inputs.specs.declared.specification.CompiledSpec.{CompiledSpec}
 use Rattle.jm_inputs.specs.Specifications.{Specification}
 use Rattle.jm_machine.specs.RuleSets.{CompiledRules}
 use Rattle.jm_inputs.specs.Reading.{Listed, named_entry, listing, listed, titled, specification_of}
@@ -42,7 +42,7 @@ name_there (e ∷ es) zero name named = (e, refl, same_some named)
 name_there (e ∷ es) (suc k) name named = name_there es k name named
 
 -- what is kept under the entry of a place
-pub listed_there : (es : List CatalogEntry) (ls : List Loaded) (k : ℕ) (e : CatalogEntry) (l : Loaded) → length es ≡ length ls → k < length es → e ≡ get_or es k e → l ≡ get_or ls k l
+pub listed_there : (es : List CatalogEntry) (ls : List CompiledSpec) (k : ℕ) (e : CatalogEntry) (l : CompiledSpec) → length es ≡ length ls → k < length es → e ≡ get_or es k e → l ≡ get_or ls k l
     → (k < length (listed es ls)) × (listing e l ≡ get_or (listed es ls) k (listing e l))
 listed_there [] ls k e l same lt here there = absurd (omega (arith, lt))
 listed_there (d ∷ es) [] k e l same lt here there = absurd (omega (arith, same))
@@ -55,13 +55,13 @@ listed_there (d ∷ es) (m ∷ ls) (suc k) e l same lt here there =
 abbrev pub rules_of : List Ended → List CompiledRules
 rules_of ps = map (λ (p : Ended). p.rules) ps
 
-pub length-titled_by : (es : List CatalogEntry) (ts : List Titles) (ps : List Ended) → length es ≡ length ts → length ts ≡ length ps → length (titled_by es ts (rules_of ps)) ≡ length es
+pub length-titled_by : (es : List CatalogEntry) (ts : List SpecHeader) (ps : List Ended) → length es ≡ length ts → length ts ≡ length ps → length (titled_by es ts (rules_of ps)) ≡ length es
 length-titled_by [] ts ps same many = refl
 length-titled_by (e ∷ es) [] ps same many = absurd (omega (arith, same))
 length-titled_by (e ∷ es) (t ∷ ts) [] same many = absurd (omega (arith, many))
 length-titled_by (e ∷ es) (t ∷ ts) (p ∷ ps) same many = omega (arith, length-titled_by es ts ps (omega (arith, same)) (omega (arith, many)))
 
-pub titled_there : (es : List CatalogEntry) (ts : List Titles) (ps : List Ended) (k : ℕ) (e : CatalogEntry) (t : Titles) (p : Ended) → length es ≡ length ts → length ts ≡ length ps → k < length es
+pub titled_there : (es : List CatalogEntry) (ts : List SpecHeader) (ps : List Ended) (k : ℕ) (e : CatalogEntry) (t : SpecHeader) (p : Ended) → length es ≡ length ts → length ts ≡ length ps → k < length es
     → e ≡ get_or es k e → t ≡ get_or ts k t → p ≡ get_or ps k p → (k < length (titled_by es ts (rules_of ps))) × (titled e t p.rules.definition ≡ get_or (titled_by es ts (rules_of ps)) k (titled e t p.rules.definition))
 titled_there [] ts ps k e t p same many lt here there own = absurd (omega (arith, lt))
 titled_there (d ∷ es) [] ps k e t p same many lt here there own = absurd (omega (arith, same))

@@ -7,12 +7,12 @@ use Rattle.jm_print.specs.Lexicons.{Lexicon}
 use Rattle.jm_print.specs.Texts.{IsPrintable}
 use Rattle.jm_print.specs.Summaries.{summary_text}
 use Rattle.jm_script.specs.Catalogs.{CatalogEntry}
-use Rattle.jm_inputs.specs.declared.specification.Titles.{Titles}
+use Rattle.jm_inputs.specs.declared.specification.SpecHeader.{SpecHeader}
 use Rattle.jm_inputs.specs.Specifications.{Specification}
 use Rattle.jm_inputs.specs.Reading.{titled}
 
--- the specifications of these entries, with these titles and rules
-abbrev pub titled_by : List CatalogEntry → List Titles → List CompiledRules → List Specification
+-- the specifications of these entries, with these headers and rules
+abbrev pub titled_by : List CatalogEntry → List SpecHeader → List CompiledRules → List Specification
 titled_by (e ∷ es) (t ∷ ts) (r ∷ rs) = titled e t r.definition ∷ titled_by es ts rs
 titled_by _ _ _ = []
 

@@ -13,19 +13,19 @@ use Rattle.jm_sync.specs.Checks.{AreSound, sync_of}
 use Rattle.jm_runner.specs.Orders.{IsOrdered}
 use Rattle.jm_runner.specs.Runs.{projections_of}
 use Rattle.jm_script.specs.declared.script.ScriptLine.{ScriptLine}
-use Rattle.jm_inputs.specs.declared.specification.Titles.{Titles}
-use Rattle.jm_inputs.specs.declared.specification.Loaded.{Loaded}
-use Rattle.jm_inputs.specs.declared.library.Library.{Library}
+use Rattle.jm_inputs.specs.declared.specification.SpecHeader.{SpecHeader}
+use Rattle.jm_inputs.specs.declared.specification.CompiledSpec.{CompiledSpec}
+use Rattle.jm_inputs.specs.declared.spec_set.SpecSet.{SpecSet}
 use Rattle.jm_inputs.specs.declared.scripts.Scripts.{Scripts}
 use Rattle.jm_inputs.specs.Reading.{specs_in, IsCatalogued, AreCounted}
 
--- scripts that can run over the specifications of a library: both are few and some, the scripts fit the catalog, and
+-- scripts that can run over the specifications of a spec set: both are few and some, the scripts fit the catalog, and
 -- nothing is wrong with what they ask for
-pub record CanRunOver (library : Library) (s : Scripts) : Type 0 where
-  pub specs : (1 ≤ length library.specs.items) × (length library.specs.items ≤ 16)
+pub record CanRunOver (spec_set : SpecSet) (s : Scripts) : Type 0 where
+  pub specs : (1 ≤ length spec_set.specs.items) × (length spec_set.specs.items ≤ 16)
   pub scripts : (1 ≤ length s.list.items) × (length s.list.items ≤ 16)
-  pub catalogued : IsCatalogued library
-  pub counted : AreCounted (specs_in library) s
+  pub catalogued : IsCatalogued spec_set
+  pub counted : AreCounted (specs_in spec_set) s
   pub sound : AreSound (sync_of s.cuts.items)
 
 -- a fresh dispatcher by these rules, over so many objects, with so many seats
@@ -37,21 +37,21 @@ pub record IsWatchOf (objects seats : ℕ) (rules : CompiledRules) (watch : Lock
   pub newcomers : AreNewcomers watch all
 
 -- one for each specification
-abbrev pub AreWatchesOf : ℕ → ℕ → List Loaded → List (LockModel (Fixed CompiledRules))
+abbrev pub AreWatchesOf : ℕ → ℕ → List CompiledSpec → List (LockModel (Fixed CompiledRules))
     → List (List (SeatModel Entry (Fixed CompiledRules))) → Type 0
 AreWatchesOf objects seats [] [] [] = Unit {0}
 AreWatchesOf objects seats (l ∷ ls) (watch ∷ watches) (all ∷ alls) =
     IsWatchOf objects seats l.rules watch all × AreWatchesOf objects seats ls watches alls
 AreWatchesOf objects seats _ _ _ = ⊥
 
--- the titles of these specifications, and the core of each, with its rules, whose history is legal and an interleaving
+-- the headers of these specifications, and the core of each, with its rules, whose history is legal and an interleaving
 -- of the scripts' projections, in the order that these ask for
-pub record AreRunsOf (specs : List Loaded) (scripts : List (List ScriptLine)) (asked : List (List SyncLine))
-    (titles : List Titles) (props : List (Core CompiledRules)) : Type 0 where
-  pub titled : titles ≡ map (λ l. l.titles) specs
+pub record AreRunsOf (specs : List CompiledSpec) (scripts : List (List ScriptLine)) (asked : List (List SyncLine))
+    (headers : List SpecHeader) (props : List (Core CompiledRules)) : Type 0 where
+  pub titled : headers ≡ map (λ l. l.header) specs
   pub ruled : map (λ p. p.definition) props ≡ map (λ l. l.rules) specs
-  pub legal : (k : ℕ) (l : Loaded) (p : Core CompiledRules) → slice_get specs k ≡ Some l → slice_get props k ≡ Some p
-      → IsLegal (rules_meaning l.rules.definition) p.entries
-  pub woven : (k : ℕ) (l : Loaded) (p : Core CompiledRules) → slice_get specs k ≡ Some l → slice_get props k ≡ Some p
-      → IsInterleaving p.entries (projections_of scripts k)
+  pub legal : (k : ℕ) (l : CompiledSpec) (p : Core CompiledRules)
+      → slice_get specs k ≡ Some l → slice_get props k ≡ Some p → IsLegal (rules_meaning l.rules.definition) p.entries
+  pub woven : (k : ℕ) (l : CompiledSpec) (p : Core CompiledRules)
+      → slice_get specs k ≡ Some l → slice_get props k ≡ Some p → IsInterleaving p.entries (projections_of scripts k)
   pub ordered : All (λ p. IsOrdered p.entries asked) props

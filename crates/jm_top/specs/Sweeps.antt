@@ -2,7 +2,7 @@
 use Rattle.std.specs.Prelude.{ℕ, ◌+◌, ◌≡◌, ◌≤◌, List, [], ◌∷◌, ◌++◌, length}
 use Rattle.jm_model.specs.Words.{Text}
 use Rattle.jm_sweep.specs.Recordings.{LiesWithin}
-use Rattle.jm_inputs.specs.declared.library.Library.{Library}
+use Rattle.jm_inputs.specs.declared.spec_set.SpecSet.{SpecSet}
 use Rattle.jm_top.specs.declared.sweep.Piece.{Piece}
 use Rattle.jm_inputs.specs.Specifications.{Specification, most_bytes}
 use Rattle.jm_inputs.specs.Scripts.{IsScript}
@@ -10,14 +10,14 @@ use Rattle.jm_top.specs.Histories.{IsTextOfHistories, IsTextOfParts}
 use Rattle.jm_inputs.specs.Recordings.{RecordedPart, steps_of_parts, SayParts, IsRecording}
 use Rattle.jm_inputs.specs.Reading.{IsCatalogued}
 
--- a library of one specification
-pub record IsOfOne (library : Library) : Type 0 where
-  pub one : length library.specs.items ≡ 1
-  pub catalogued : IsCatalogued library
+-- a spec set of one specification
+pub record IsOfOne (spec_set : SpecSet) : Type 0 where
+  pub one : length spec_set.specs.items ≡ 1
+  pub catalogued : IsCatalogued spec_set
 
--- the bytes of a span can be replayed over the specification of the library
-pub record CanReplay (library : Library) (bytes : Text) (span : ℕ × ℕ) : Type 0 where
-  pub of_one : IsOfOne library
+-- the bytes of a span can be replayed over the specification of the spec set
+pub record CanReplay (spec_set : SpecSet) (bytes : Text) (span : ℕ × ℕ) : Type 0 where
+  pub of_one : IsOfOne spec_set
   pub small : length bytes ≤ most_bytes
   pub within : LiesWithin bytes span
 

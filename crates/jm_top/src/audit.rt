@@ -17,11 +17,11 @@ pub(crate) fn verdict_on(
     inputs: &Inputs,
     history: &[u8],
 ) -> Result<Vec<u8>, NoMemory>
-    requires specs { length inputs.now.library.specs.items ≤ most_specs }
+    requires specs { length inputs.now.spec_set.specs.items ≤ most_specs }
     requires scripts { length inputs.now.scripts.list.items ≤ most_scripts }
-    requires catalogued { IsCatalogued inputs.now.library }
-    requires counted { AreCounted (specs_in inputs.now.library) inputs.now.scripts }
-    ensures { IfOk result (λ text. IsTextOfVerdict (specs_in inputs.now.library) inputs.now.scripts.list.items
+    requires catalogued { IsCatalogued inputs.now.spec_set }
+    requires counted { AreCounted (specs_in inputs.now.spec_set) inputs.now.scripts }
+    ensures { IfOk result (λ text. IsTextOfVerdict (specs_in inputs.now.spec_set) inputs.now.scripts.list.items
         inputs.now.scripts.objects history.now text.items) }
 {
     let verdict = verdict(alloc, inputs, history)?;
@@ -30,24 +30,24 @@ pub(crate) fn verdict_on(
 
 /// The verdict on a history.
 fn verdict(alloc: Global, inputs: &Inputs, history: &[u8]) -> Result<Verdict, NoMemory>
-    requires specs { length inputs.now.library.specs.items ≤ most_specs }
+    requires specs { length inputs.now.spec_set.specs.items ≤ most_specs }
     requires scripts { length inputs.now.scripts.list.items ≤ most_scripts }
-    requires catalogued { IsCatalogued inputs.now.library }
-    requires counted { AreCounted (specs_in inputs.now.library) inputs.now.scripts }
-    ensures { IfOk result (IsVerdict (IsTextOfHistories (specs_in inputs.now.library) inputs.now.scripts.list.items
+    requires catalogued { IsCatalogued inputs.now.spec_set }
+    requires counted { AreCounted (specs_in inputs.now.spec_set) inputs.now.scripts }
+    ensures { IfOk result (IsVerdict (IsTextOfHistories (specs_in inputs.now.spec_set) inputs.now.scripts.list.items
         inputs.now.scripts.objects) history.now) }
 {
-    let library = &inputs.library;
+    let spec_set = &inputs.spec_set;
     let scripts = &inputs.scripts;
     let mut sheets = Vec::new(alloc);
-    for number in 0..library.catalog.len() {
-        let loaded = &library.specs[number as usize];
+    for number in 0..spec_set.catalog.len() {
+        let compiled = &spec_set.specs[number as usize];
         sheets.push(Sheet {
-            rules: &loaded.rules,
-            name: library.catalog.name(number),
-            table: library.catalog.table(number),
-            categories: loaded.rules.handlers(),
-            handlers: loaded.titles.texts.as_slice(),
+            rules: &compiled.rules,
+            name: spec_set.catalog.name(number),
+            table: spec_set.catalog.table(number),
+            categories: compiled.rules.handlers(),
+            handlers: compiled.header.texts.as_slice(),
         })?;
     }
     audit(

@@ -7,7 +7,7 @@ ghost use Rattle.jm_machine.specs.Meanings.{has_grammar, rules_meaning};
 ghost use Rattle.jm_inputs.specs.Reading.{named_entry, listing, listed, specification_of, IsWhole};
 
 use jm_events::EventTable;
-use jm_inputs::Loaded;
+use jm_inputs::CompiledSpec;
 use jm_machine::Rules;
 use jm_model::{Letter, NoMemory};
 use jm_print::{render_check, render_coenable};
@@ -18,7 +18,7 @@ use std::alloc::Global;
 pub(crate) fn declared(
     alloc: Global,
     catalog: &Catalog,
-    specs: &[Loaded],
+    specs: &[CompiledSpec],
 ) -> Result<Vec<u8>, NoMemory>
     requires { length catalog.now ≡ length specs.now }
     ensures { IfOk result (λ text. text.items
@@ -43,20 +43,20 @@ fn declared_by(
     alloc: Global,
     name: &str,
     table: &EventTable,
-    loaded: &Loaded,
+    compiled: &CompiledSpec,
 ) -> Result<Vec<u8>, NoMemory>
     ensures { IfOk result (λ text. text.items
-        ≡ declared_text (specification_of (listing (named_entry name.now table.now) loaded.now))) }
+        ≡ declared_text (specification_of (listing (named_entry name.now table.now) compiled.now))) }
 {
-    let titles = &loaded.titles;
+    let header = &compiled.header;
     render_check(
         alloc,
         name,
-        titles.logics.as_slice(),
-        titles.full_binding,
-        titles.suffix,
+        header.logics.as_slice(),
+        header.full_binding,
+        header.suffix,
         table,
-        loaded.rules.handlers(),
+        compiled.rules.handlers(),
     )
 }
 
@@ -64,7 +64,7 @@ fn declared_by(
 pub(crate) fn families(
     alloc: Global,
     catalog: &Catalog,
-    specs: &[Loaded],
+    specs: &[CompiledSpec],
 ) -> Result<Vec<u8>, NoMemory>
     requires many { length catalog.now ≡ length specs.now }
     requires whole { All IsWhole (listed catalog.now specs.now) }
@@ -90,14 +90,14 @@ fn families_text(
     alloc: Global,
     name: &str,
     table: &EventTable,
-    loaded: &Loaded,
+    compiled: &CompiledSpec,
 ) -> Result<Vec<u8>, NoMemory>
-    requires whole { IsWhole (listing (named_entry name.now table.now) loaded.now) }
-    requires table { has_grammar loaded.now.rules.definition.properties ≡ false }
+    requires whole { IsWhole (listing (named_entry name.now table.now) compiled.now) }
+    requires table { has_grammar compiled.now.rules.definition.properties ≡ false }
     ensures { IfOk result (λ text. IsTextOfFamily
-        (specification_of (listing (named_entry name.now table.now) loaded.now)) text.items) }
+        (specification_of (listing (named_entry name.now table.now) compiled.now)) text.items) }
 {
-    let families = families_of(alloc, table, &loaded.rules)?;
+    let families = families_of(alloc, table, &compiled.rules)?;
     render_coenable(alloc, name, table, families.as_slice())
 }
 

@@ -11,7 +11,7 @@ use crate::blocks::joined;
 use jm_core::Prop;
 use jm_events::{EventTable, Names};
 use jm_history::History;
-use jm_inputs::Titles;
+use jm_inputs::SpecHeader;
 use jm_machine::Rules;
 use jm_model::{Monitor, NoMemory};
 use jm_print::{render_history, render_summary};
@@ -38,21 +38,21 @@ pub(crate) fn ended_of(alloc: Global, props: Vec<Prop<Rules>>) -> Result<Vec<End
     Ok(all)
 }
 
-/// The printed histories of these cores, each by its titles, one after another.
+/// The printed histories of these cores, each by its header, one after another.
 pub(crate) fn histories_text(
     alloc: Global,
     catalog: &Catalog,
-    titles: &[Titles],
+    headers: &[SpecHeader],
     ended: &[Ended],
     objects: &Names,
 ) -> Result<Vec<u8>, NoMemory>
-    requires titled { length catalog.now ≡ length titles.now }
-    requires many { length titles.now ≡ length ended.now }
+    requires titled { length catalog.now ≡ length headers.now }
+    requires many { length headers.now ≡ length ended.now }
     requires printable { ArePrintable
-        (map (lexicon objects.now) (titled_by catalog.now titles.now (map (λ e. e.rules) ended.now)))
+        (map (lexicon objects.now) (titled_by catalog.now headers.now (map (λ e. e.rules) ended.now)))
         (map (λ e. e.history) ended.now) }
     ensures { IfOk result (λ text. text.items ≡ texts_of
-        (map (lexicon objects.now) (titled_by catalog.now titles.now (map (λ e. e.rules) ended.now)))
+        (map (lexicon objects.now) (titled_by catalog.now headers.now (map (λ e. e.rules) ended.now)))
         (map (λ e. e.history) ended.now)) }
 {
     let mut text = Vec::new(alloc);
@@ -60,7 +60,14 @@ pub(crate) fn histories_text(
         let number = spec as usize;
         let name = catalog.name(spec);
         let table = catalog.table(spec);
-        let block = history_text(alloc, name, table, &titles[number], &ended[number], objects)?;
+        let block = history_text(
+            alloc,
+            name,
+            table,
+            &headers[number],
+            &ended[number],
+            objects,
+        )?;
         text = joined(text, block)?;
     }
     Ok(text)
@@ -71,14 +78,14 @@ fn history_text(
     alloc: Global,
     name: &str,
     table: &EventTable,
-    titles: &Titles,
+    header: &SpecHeader,
     ended: &Ended,
     objects: &Names,
 ) -> Result<Vec<u8>, NoMemory>
-    requires { All (IsPrintable (lexicon objects.now (titled (named_entry name.now table.now) titles.now
+    requires { All (IsPrintable (lexicon objects.now (titled (named_entry name.now table.now) header.now
         ended.now.rules.definition))) ended.now.history }
     ensures { IfOk result (λ text. text.items ≡ history_text (lexicon objects.now
-        (titled (named_entry name.now table.now) titles.now ended.now.rules.definition)) ended.now.history) }
+        (titled (named_entry name.now table.now) header.now ended.now.rules.definition)) ended.now.history) }
 {
     render_history(
         alloc,
@@ -86,7 +93,7 @@ fn history_text(
         &ended.history,
         table,
         ended.rules.handlers(),
-        titles.texts.as_slice(),
+        header.texts.as_slice(),
         objects,
     )
 }

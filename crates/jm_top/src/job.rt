@@ -89,7 +89,7 @@ fn replayed<F: Folder>(
         TO_RUN,
         files,
     )?;
-    let text = replay(alloc, inputs.library, inputs.scripts)?;
+    let text = replay(alloc, inputs.spec_set, inputs.scripts)?;
     Ok(text)
 }
 
@@ -109,7 +109,7 @@ fn ran<R: Threads + Wait + Sync, F: Folder, G: Gate>(
     ensures read_failed { CountsFailedReads result (F.faults files.old) (F.faults files.new) }
 {
     let inputs = read_inputs(alloc, specs, scripts, TO_RUN, files)?;
-    let text = run(rt, alloc, inputs.library, inputs.scripts, gate)?;
+    let text = run(rt, alloc, inputs.spec_set, inputs.scripts, gate)?;
     Ok(text)
 }
 
@@ -119,8 +119,8 @@ fn checked<F: Folder>(alloc: Global, specs: &[String], files: &mut F) -> Result<
     ensures carried_out { IsCarriedOut (F.holds files.old) (Check (map string_bytes specs.now)) result }
     ensures read_failed { CountsFailedReads result (F.faults files.old) (F.faults files.new) }
 {
-    let library = read_specifications(alloc, specs, 0, Purpose::Rules, files)?;
-    let text = declared(alloc, &library.catalog, library.specs.as_slice())?;
+    let spec_set = read_specifications(alloc, specs, 0, Purpose::Rules, files)?;
+    let text = declared(alloc, &spec_set.catalog, spec_set.specs.as_slice())?;
     Ok(text)
 }
 
@@ -130,8 +130,8 @@ fn coenabled<F: Folder>(alloc: Global, specs: &[String], files: &mut F) -> Resul
     ensures carried_out { IsCarriedOut (F.holds files.old) (Coenable (map string_bytes specs.now)) result }
     ensures read_failed { CountsFailedReads result (F.faults files.old) (F.faults files.new) }
 {
-    let library = read_specifications(alloc, specs, 0, Purpose::Families, files)?;
-    let text = families(alloc, &library.catalog, library.specs.as_slice())?;
+    let spec_set = read_specifications(alloc, specs, 0, Purpose::Families, files)?;
+    let text = families(alloc, &spec_set.catalog, spec_set.specs.as_slice())?;
     Ok(text)
 }
 
@@ -146,7 +146,7 @@ fn generated<R: Threads + Wait + Sync, G: Gate>(
     ensures { (contents : FileContents) → IsCarriedOut contents (Gen n) result }
 {
     let inputs = read_workload(alloc, n)?;
-    let text = run_in_short(rt, alloc, inputs.library, &inputs.scripts, gate)?;
+    let text = run_in_short(rt, alloc, inputs.spec_set, &inputs.scripts, gate)?;
     Ok(text)
 }
 
@@ -162,9 +162,9 @@ fn swept<R: Threads + Sync, F: Folder>(
         (Sweep (string_bytes spec.now) (string_bytes recording.now)) result }
     ensures read_failed { CountsFailedReads result (F.faults files.old) (F.faults files.new) }
 {
-    let library = read_specifications(alloc, slice::from_ref(spec), 0, Purpose::Rules, files)?;
+    let spec_set = read_specifications(alloc, slice::from_ref(spec), 0, Purpose::Rules, files)?;
     let bytes = load(recording.as_str(), 1, MOST_BYTES, too_long(0), files)?;
-    sweep(rt, alloc, &library, bytes.as_slice())
+    sweep(rt, alloc, &spec_set, bytes.as_slice())
 }
 
 /// The text of `audit`.

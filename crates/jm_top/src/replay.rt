@@ -13,7 +13,7 @@ ghost use Rattle.jm_top.specs.Replays.{IsReplayOf, IsPrintedReplay};
 use jm_core::Prop;
 use jm_events::{EventTable, Names};
 use jm_history::History;
-use jm_inputs::{Library, Loaded, Scripts};
+use jm_inputs::{CompiledSpec, Scripts, SpecSet};
 use jm_model::{Monitor, NoMemory};
 use jm_print::render_history;
 use jm_script::Block;
@@ -22,13 +22,17 @@ use std::alloc::Global;
 /// The printed history of the one script, replayed over the one specification. The lines of the script are let go as they
 /// are done, and of the core nothing but the rules and the history is left for the printing. A script that can be done in
 /// the order that it asks for has each wait below its post, so it is done line by line.
-pub(crate) fn replay(alloc: Global, library: Library, scripts: Scripts) -> Result<Vec<u8>, NoMemory>
-    requires one_spec { length library.specs.items ≡ 1 }
+pub(crate) fn replay(
+    alloc: Global,
+    spec_set: SpecSet,
+    scripts: Scripts,
+) -> Result<Vec<u8>, NoMemory>
+    requires one_spec { length spec_set.specs.items ≡ 1 }
     requires one_script { length scripts.list.items ≡ 1 }
-    requires catalogued { IsCatalogued library }
-    requires counted { AreCounted (specs_in library) scripts }
+    requires catalogued { IsCatalogued spec_set }
+    requires counted { AreCounted (specs_in spec_set) scripts }
     requires sound { AreSound (sync_of scripts.cuts.items) }
-    ensures { IfOk result (λ text. IsTextOfOrdered (specs_in library) scripts.list.items (sync_of scripts.cuts.items)
+    ensures { IfOk result (λ text. IsTextOfOrdered (specs_in spec_set) scripts.list.items (sync_of scripts.cuts.items)
         scripts.objects text.items) }
 {
     let Scripts {
@@ -40,15 +44,15 @@ pub(crate) fn replay(alloc: Global, library: Library, scripts: Scripts) -> Resul
         unreachable!()
     };
     let blocks = script.into_blocks()?;
-    let Library { mut specs, catalog } = library;
-    let Some(loaded) = specs.pop() else {
+    let SpecSet { mut specs, catalog } = spec_set;
+    let Some(compiled) = specs.pop() else {
         unreachable!()
     };
     replay_blocks(
         alloc,
         catalog.name(0),
         catalog.table(0),
-        loaded,
+        compiled,
         blocks,
         &objects,
     )
@@ -59,20 +63,21 @@ fn replay_blocks(
     alloc: Global,
     name: &str,
     table: &EventTable,
-    loaded: Loaded,
+    compiled: CompiledSpec,
     blocks: Vec<Block>,
     objects: &Names,
 ) -> Result<Vec<u8>, NoMemory>
-    requires steps { All (λ step. IsFitStep (rules_meaning loaded.rules.definition) (length objects.now) step.1)
+    requires steps { All (λ step. IsFitStep (rules_meaning compiled.rules.definition) (length objects.now) step.1)
         (steps_in 0 blocks.items) }
-    requires printable { (h : List Entry) → IsReplayOf (rules_meaning loaded.rules.definition) (steps_in 0 blocks.items) h
+    requires printable { (h : List Entry)
+        → IsReplayOf (rules_meaning compiled.rules.definition) (steps_in 0 blocks.items) h
         → All (IsPrintable (lexicon objects.now
-        (titled (named_entry name.now table.now) loaded.titles loaded.rules.definition))) h }
-    ensures { IfOk result (λ text. IsPrintedReplay (rules_meaning loaded.rules.definition) (steps_in 0 blocks.items)
+        (titled (named_entry name.now table.now) compiled.header compiled.rules.definition))) h }
+    ensures { IfOk result (λ text. IsPrintedReplay (rules_meaning compiled.rules.definition) (steps_in 0 blocks.items)
         (lexicon objects.now
-        (titled (named_entry name.now table.now) loaded.titles loaded.rules.definition)) text.items) }
+        (titled (named_entry name.now table.now) compiled.header compiled.rules.definition)) text.items) }
 {
-    let Loaded { titles, rules } = loaded;
+    let CompiledSpec { header, rules } = compiled;
     let (rules, history) = history_of(alloc, rules, blocks, objects.len())?;
     render_history(
         alloc,
@@ -80,7 +85,7 @@ fn replay_blocks(
         &history,
         table,
         rules.handlers(),
-        titles.texts.as_slice(),
+        header.texts.as_slice(),
         objects,
     )
 }

@@ -10,7 +10,7 @@ use crate::histories::{ended_of, histories_text, summaries_text};
 use jm_core::Prop;
 use jm_dispatch::Watch;
 use jm_events::Names;
-use jm_inputs::{Library, Loaded, Scripts, Titles};
+use jm_inputs::{CompiledSpec, Scripts, SpecHeader, SpecSet};
 use jm_machine::Rules;
 use jm_model::NoMemory;
 use jm_runner::{Gate, Running, run_with_notes};
@@ -24,26 +24,26 @@ use std::thread::Threads;
 pub(crate) fn run<R: Threads + Wait + Sync, G: Gate>(
     rt: &R,
     alloc: Global,
-    library: Library,
+    spec_set: SpecSet,
     scripts: Scripts,
     gate: &G,
 ) -> Result<Vec<u8>, NoMemory>
-    requires ready { CanRunOver library scripts }
-    ensures { IfOk result (λ text. IsTextOfOrdered (specs_in library) scripts.list.items
+    requires ready { CanRunOver spec_set scripts }
+    ensures { IfOk result (λ text. IsTextOfOrdered (specs_in spec_set) scripts.list.items
         (sync_of scripts.cuts.items) scripts.objects text.items) }
 {
-    let runs = run_all(rt, alloc, library, &scripts, gate)?;
+    let runs = run_all(rt, alloc, spec_set, &scripts, gate)?;
     let objects = objects_of(scripts);
     let Runs {
         catalog,
-        titles,
+        headers,
         props,
     } = runs;
     let ended = ended_of(alloc, props)?;
     histories_text(
         alloc,
         &catalog,
-        titles.as_slice(),
+        headers.as_slice(),
         ended.as_slice(),
         &objects,
     )
@@ -61,22 +61,22 @@ fn objects_of(scripts: Scripts) -> Names
 pub(crate) fn run_in_short<R: Threads + Wait + Sync, G: Gate>(
     rt: &R,
     alloc: Global,
-    library: Library,
+    spec_set: SpecSet,
     scripts: &Scripts,
     gate: &G,
 ) -> Result<Vec<u8>, NoMemory>
-    requires ready { CanRunOver library scripts.now }
-    ensures { IfOk result (λ text. IsTextOfSummaries (specs_in library) scripts.now.list.items text.items) }
+    requires ready { CanRunOver spec_set scripts.now }
+    ensures { IfOk result (λ text. IsTextOfSummaries (specs_in spec_set) scripts.now.list.items text.items) }
 {
-    let runs = run_all(rt, alloc, library, scripts, gate)?;
+    let runs = run_all(rt, alloc, spec_set, scripts, gate)?;
     summaries_text(alloc, &runs.catalog, runs.props.as_slice())
 }
 
-/// The catalog of the specifications, the titles of each, and its core after the run.
+/// The catalog of the specifications, the header of each, and its core after the run.
 #[derive(Drop)]
 pub(crate) struct Runs {
     pub catalog: Catalog,
-    pub titles: Vec<Titles>,
+    pub headers: Vec<SpecHeader>,
     pub props: Vec<Prop<Rules>>,
 }
 
@@ -84,19 +84,19 @@ pub(crate) struct Runs {
 pub(crate) fn run_all<R: Threads + Wait + Sync, G: Gate>(
     rt: &R,
     alloc: Global,
-    library: Library,
+    spec_set: SpecSet,
     scripts: &Scripts,
     gate: &G,
 ) -> Result<Runs, NoMemory>
-    requires ready { CanRunOver library scripts.now }
-    ensures catalog { IfOk result (λ runs. runs.catalog ≡ library.catalog) }
-    ensures ran { IfOk result (λ runs. AreRunsOf library.specs.items scripts.now.list.items
-        (sync_of scripts.now.cuts.items) runs.titles.items runs.props.items) }
+    requires ready { CanRunOver spec_set scripts.now }
+    ensures catalog { IfOk result (λ runs. runs.catalog ≡ spec_set.catalog) }
+    ensures ran { IfOk result (λ runs. AreRunsOf spec_set.specs.items scripts.now.list.items
+        (sync_of scripts.now.cuts.items) runs.headers.items runs.props.items) }
 {
-    let Library { specs, catalog } = library;
+    let SpecSet { specs, catalog } = spec_set;
     let seats = scripts.list.len() as u32;
     let made = dispatchers(alloc, specs, scripts.objects.len(), seats)?;
-    let TitledDispatchers { titles, watches } = made;
+    let NamedDispatchers { headers, watches } = made;
     let props = run_with_notes(
         rt,
         alloc,
@@ -107,39 +107,39 @@ pub(crate) fn run_all<R: Threads + Wait + Sync, G: Gate>(
     )?;
     Ok(Runs {
         catalog,
-        titles,
+        headers,
         props,
     })
 }
 
-/// The titles of each specification, and its dispatcher with a seat for each script.
+/// The header of each specification, and its dispatcher with a seat for each script.
 #[derive(Drop)]
-struct TitledDispatchers {
-    titles: Vec<Titles>,
+struct NamedDispatchers {
+    headers: Vec<SpecHeader>,
     watches: Vec<Running<Rules>>,
 }
 
 /// A dispatcher for each specification.
 fn dispatchers(
     alloc: Global,
-    specs: Vec<Loaded>,
+    specs: Vec<CompiledSpec>,
     objects: u32,
     seats: u32,
-) -> Result<TitledDispatchers, NoMemory>
+) -> Result<NamedDispatchers, NoMemory>
     requires { (1 ≤ seats) × (seats ≤ most_scripts) }
-    ensures titles { IfOk result (λ w. w.titles.items ≡ map (λ l. l.titles) specs.items) }
+    ensures headers { IfOk result (λ w. w.headers.items ≡ map (λ l. l.header) specs.items) }
     ensures watches { IfOk result (λ w. AreWatchesOf objects seats specs.items (map (λ r. r.watch) w.watches.items)
         (map (λ r. r.seats.items) w.watches.items)) }
 {
-    let mut titles = Vec::new(alloc);
+    let mut headers = Vec::new(alloc);
     let mut watches = Vec::new(alloc);
-    for loaded in specs {
-        let Loaded { titles: own, rules } = loaded;
+    for compiled in specs {
+        let CompiledSpec { header: own, rules } = compiled;
         let watch = dispatcher(alloc, rules, objects, seats)?;
         watches.push(watch)?;
-        titles.push(own)?;
+        headers.push(own)?;
     }
-    Ok(TitledDispatchers { titles, watches })
+    Ok(NamedDispatchers { headers, watches })
 }
 
 /// A dispatcher by these rules, with its seats.

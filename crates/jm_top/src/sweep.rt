@@ -19,7 +19,7 @@ ghost use Rattle.jm_script.specs.Meanings.{most_steps};
 
 use jm_events::{EventTable, Names};
 use jm_history::History;
-use jm_inputs::{Library, Loaded, Status};
+use jm_inputs::{CompiledSpec, SpecSet, Status};
 use jm_model::{Monitor, NoMemory, ScriptError};
 use jm_print::render_history;
 use jm_script::{CompactScript, read_compact};
@@ -38,37 +38,37 @@ pub(crate) struct Piece {
     pub text: Vec<u8>,
 }
 
-/// The printed histories of the parts that these bytes say, over the one specification of the library, one after
+/// The printed histories of the parts that these bytes say, over the one specification of the spec set, one after
 /// another. The parts are split among threads.
 pub(crate) fn sweep<R: Threads + Sync>(
     rt: &R,
     alloc: Global,
-    library: &Library,
+    spec_set: &SpecSet,
     bytes: &[u8],
 ) -> Result<Vec<u8>, Status>
-    requires library { IsOfOne library.now }
+    requires spec_set { IsOfOne spec_set.now }
     requires small { length bytes.now ≤ most_bytes }
-    ensures ok { IfOk result (λ text. IsSweptWhole (specs_in library.now) bytes.now text.items) }
-    ensures err { IfErr result (IsNoRecordingIn (specs_in library.now) bytes.now) }
+    ensures ok { IfOk result (λ text. IsSweptWhole (specs_in spec_set.now) bytes.now text.items) }
+    ensures err { IfErr result (IsNoRecordingIn (specs_in spec_set.now) bytes.now) }
 {
     let spans = parts(alloc, bytes)?;
-    let Ok(pieces) = pieces_of(rt, alloc, library, bytes, spans.as_slice()) else {
+    let Ok(pieces) = pieces_of(rt, alloc, spec_set, bytes, spans.as_slice()) else {
         return Err(Status::NoMemory);
     };
-    put_together(alloc, library, bytes, spans.as_slice(), pieces.as_slice())
+    put_together(alloc, spec_set, bytes, spans.as_slice(), pieces.as_slice())
 }
 
 /// The piece of each part, or why it has none. Each part is read as if no other stood before it.
 fn pieces_of<R: Threads + Sync>(
     rt: &R,
     alloc: Global,
-    library: &Library,
+    spec_set: &SpecSet,
     bytes: &[u8],
     spans: &[(u32, u32)],
 ) -> Result<Vec<Result<Piece, ScriptError>>, AllocError>
-    requires replayable { All (CanReplay library.now bytes.now) spans.now }
+    requires replayable { All (CanReplay spec_set.now bytes.now) spans.now }
     ensures { IfOk result (λ pieces. AllZip
-        (λ span piece. IfOk piece (IsPieceOf (specs_in library.now) 0 (span_text bytes.now span)))
+        (λ span piece. IfOk piece (IsPieceOf (specs_in spec_set.now) 0 (span_text bytes.now span)))
         spans.now pieces.items) }
 {
     spans
@@ -76,9 +76,9 @@ fn pieces_of<R: Threads + Sync>(
         .with_min_len(1)
         .map(
             |span: &(u32, u32)| -> Result<Piece, ScriptError>
-                requires { CanReplay library.now bytes.now span.now }
-                ensures { IfOk result (IsPieceOf (specs_in library.entry.now) 0 (span_text bytes.entry.now span.now)) }
-            { early_piece(alloc, library, bytes, *span) },
+                requires { CanReplay spec_set.now bytes.now span.now }
+                ensures { IfOk result (IsPieceOf (specs_in spec_set.entry.now) 0 (span_text bytes.entry.now span.now)) }
+            { early_piece(alloc, spec_set, bytes, *span) },
         )
         .collect(rt, alloc)
 }
@@ -86,14 +86,14 @@ fn pieces_of<R: Threads + Sync>(
 /// The piece of a part, as if no other stood before it.
 fn early_piece(
     alloc: Global,
-    library: &Library,
+    spec_set: &SpecSet,
     bytes: &[u8],
     span: (u32, u32),
 ) -> Result<Piece, ScriptError>
-    requires { CanReplay library.now bytes.now span }
-    ensures { IfOk result (IsPieceOf (specs_in library.now) 0 (span_text bytes.now span)) }
+    requires { CanReplay spec_set.now bytes.now span }
+    ensures { IfOk result (IsPieceOf (specs_in spec_set.now) 0 (span_text bytes.now span)) }
 {
-    piece_of(alloc, library, part_of(bytes, span), 0)
+    piece_of(alloc, spec_set, part_of(bytes, span), 0)
 }
 
 /// The bytes of a part.
@@ -116,7 +116,7 @@ fn span_at(spans: &[(u32, u32)], number: usize) -> (u32, u32)
 /// again after them.
 fn put_together(
     alloc: Global,
-    library: &Library,
+    spec_set: &SpecSet,
     bytes: &[u8],
     spans: &[(u32, u32)],
     pieces: &[Result<Piece, ScriptError>],
@@ -124,12 +124,12 @@ fn put_together(
     requires spans { map (span_text bytes.now) spans.now ≡ parts_of bytes.now }
     requires bounded { length spans.now ≤ most_bytes + 1 }
     requires small { length bytes.now ≤ most_bytes }
-    requires replayable { All (CanReplay library.now bytes.now) spans.now }
+    requires replayable { All (CanReplay spec_set.now bytes.now) spans.now }
     requires pieces { AllZip
-        (λ span piece. IfOk piece (IsPieceOf (specs_in library.now) 0 (span_text bytes.now span)))
+        (λ span piece. IfOk piece (IsPieceOf (specs_in spec_set.now) 0 (span_text bytes.now span)))
         spans.now pieces.now }
-    ensures ok { IfOk result (λ text. IsSweptWhole (specs_in library.now) bytes.now text.items) }
-    ensures err { IfErr result (IsNoRecordingIn (specs_in library.now) bytes.now) }
+    ensures ok { IfOk result (λ text. IsSweptWhole (specs_in spec_set.now) bytes.now text.items) }
+    ensures err { IfErr result (IsNoRecordingIn (specs_in spec_set.now) bytes.now) }
 {
     let mut text = Vec::new(alloc);
     let mut count = 0;
@@ -137,7 +137,15 @@ fn put_together(
         let span = span_at(spans, number);
         let part = part_of(bytes, span);
         let piece = &pieces[number];
-        count = add_part(alloc, library, part, number as u32, count, piece, &mut text)?;
+        count = add_part(
+            alloc,
+            spec_set,
+            part,
+            number as u32,
+            count,
+            piece,
+            &mut text,
+        )?;
     }
     Ok(text)
 }
@@ -146,23 +154,23 @@ fn put_together(
 /// are then. After an error the text is of no use.
 fn add_part(
     alloc: Global,
-    library: &Library,
+    spec_set: &SpecSet,
     part: &[u8],
     number: u32,
     count: u32,
     piece: &Result<Piece, ScriptError>,
     text: &mut Vec<u8>,
 ) -> Result<u32, Status>
-    requires library { IsOfOne library.now }
+    requires spec_set { IsOfOne spec_set.now }
     requires small { length part.now ≤ most_bytes }
     requires bounded { count ≤ most_steps }
-    requires piece { IfOk piece.now (IsPieceOf (specs_in library.now) 0 part.now) }
-    ensures ok { IfOk result (HasPart (specs_in library.now) count part.now text.old.items text.new.items) }
-    ensures err { IfErr result (IsNoScriptIn (specs_in library.now) count [] number part.now) }
+    requires piece { IfOk piece.now (IsPieceOf (specs_in spec_set.now) 0 part.now) }
+    ensures ok { IfOk result (HasPart (specs_in spec_set.now) count part.now text.old.items text.new.items) }
+    ensures err { IfErr result (IsNoScriptIn (specs_in spec_set.now) count [] number part.now) }
 {
     match piece {
         Ok(piece) if piece.steps <= MOST_STEPS - count => add_piece(count, piece, text),
-        _ => match piece_after(alloc, library, part, number, count) {
+        _ => match piece_after(alloc, spec_set, part, number, count) {
             Ok(piece) => add_piece(count, &piece, text),
             Err(status) => Err(status),
         },
@@ -185,19 +193,19 @@ fn add_piece(count: u32, piece: &Piece, text: &mut Vec<u8>) -> Result<u32, Statu
 /// The piece of a part that has this number and stands after a number of steps.
 fn piece_after(
     alloc: Global,
-    library: &Library,
+    spec_set: &SpecSet,
     part: &[u8],
     number: u32,
     count: u32,
 ) -> Result<Piece, Status>
-    requires library { IsOfOne library.now }
+    requires spec_set { IsOfOne spec_set.now }
     requires small { length part.now ≤ most_bytes }
     requires bounded { count ≤ most_steps }
-    ensures ok { IfOk result (IsPieceOf (specs_in library.now) count part.now) }
+    ensures ok { IfOk result (IsPieceOf (specs_in spec_set.now) count part.now) }
     ensures bounded { IfOk result (λ piece. count + piece.steps ≤ most_steps) }
-    ensures err { IfErr result (IsNoScriptIn (specs_in library.now) count [] number part.now) }
+    ensures err { IfErr result (IsNoScriptIn (specs_in spec_set.now) count [] number part.now) }
 {
-    match piece_of(alloc, library, part, count) {
+    match piece_of(alloc, spec_set, part, count) {
         Ok(piece) => Ok(piece),
         Err(ScriptError::Bad(fault)) => {
             Err(Status::BadScript {
@@ -210,19 +218,24 @@ fn piece_after(
 }
 
 /// The piece of a part that stands after a number of steps.
-fn piece_of(alloc: Global, library: &Library, part: &[u8], count: u32) -> Result<Piece, ScriptError>
-    requires library { IsOfOne library.now }
+fn piece_of(
+    alloc: Global,
+    spec_set: &SpecSet,
+    part: &[u8],
+    count: u32,
+) -> Result<Piece, ScriptError>
+    requires spec_set { IsOfOne spec_set.now }
     requires small { length part.now ≤ most_bytes }
     requires bounded { count ≤ most_steps }
-    ensures ok { IfOk result (IsPieceOf (specs_in library.now) count part.now) }
+    ensures ok { IfOk result (IsPieceOf (specs_in spec_set.now) count part.now) }
     ensures bounded { IfOk result (λ piece. count + piece.steps ≤ most_steps) }
     ensures fault { (fault : ScriptFault) → result ≡ Err (ScriptError.Bad fault)
-        → IsScriptFault (specs_in library.now) count [] part.now fault }
+        → IsScriptFault (specs_in spec_set.now) count [] part.now fault }
 {
     let mut objects = Names::new(alloc);
     let mut then = count;
-    let script = read_compact(alloc, part, &library.catalog, &mut objects, &mut then)?;
-    let text = replay_script(alloc, library, script, &objects)?;
+    let script = read_compact(alloc, part, &spec_set.catalog, &mut objects, &mut then)?;
+    let text = replay_script(alloc, spec_set, script, &objects)?;
     Ok(Piece {
         steps: then - count,
         text,
@@ -232,13 +245,13 @@ fn piece_of(alloc: Global, library: &Library, part: &[u8], count: u32) -> Result
 /// The printed history of a script, replayed over the one specification. The script is let go before the replay.
 fn replay_script(
     alloc: Global,
-    library: &Library,
+    spec_set: &SpecSet,
     script: CompactScript,
     objects: &Names,
 ) -> Result<Vec<u8>, NoMemory>
-    requires library { IsOfOne library.now }
-    requires fits { FitsCatalog (catalog_of (specs_in library.now)) (length objects.now) script }
-    ensures { IfOk result (λ text. IsTextOfHistories (specs_in library.now) (script ∷ []) objects.now text.items) }
+    requires spec_set { IsOfOne spec_set.now }
+    requires fits { FitsCatalog (catalog_of (specs_in spec_set.now)) (length objects.now) script }
+    ensures { IfOk result (λ text. IsTextOfHistories (specs_in spec_set.now) (script ∷ []) objects.now text.items) }
 {
     let steps = script.steps(alloc, 0)?;
     drop(script);
@@ -248,9 +261,9 @@ fn replay_script(
     };
     printed_part(
         alloc,
-        library.catalog.name(0),
-        library.catalog.table(0),
-        &library.specs[0],
+        spec_set.catalog.name(0),
+        spec_set.catalog.table(0),
+        &spec_set.specs[0],
         &part,
         objects,
     )
@@ -261,27 +274,27 @@ fn printed_part(
     alloc: Global,
     name: &str,
     table: &EventTable,
-    loaded: &Loaded,
+    compiled: &CompiledSpec,
     part: &Part,
     objects: &Names,
 ) -> Result<Vec<u8>, NoMemory>
-    requires steps { Fits (rules_meaning loaded.now.rules.definition) part.now.objects part.now.steps.items }
+    requires steps { Fits (rules_meaning compiled.now.rules.definition) part.now.objects part.now.steps.items }
     requires printable { (h : List Entry)
-        → IsReplayOf (rules_meaning loaded.now.rules.definition) part.now.steps.items h
+        → IsReplayOf (rules_meaning compiled.now.rules.definition) part.now.steps.items h
         → All (IsPrintable (lexicon objects.now
-        (titled (named_entry name.now table.now) loaded.now.titles loaded.now.rules.definition))) h }
-    ensures { IfOk result (λ text. IsPrintedReplay (rules_meaning loaded.now.rules.definition) part.now.steps.items
+        (titled (named_entry name.now table.now) compiled.now.header compiled.now.rules.definition))) h }
+    ensures { IfOk result (λ text. IsPrintedReplay (rules_meaning compiled.now.rules.definition) part.now.steps.items
         (lexicon objects.now
-        (titled (named_entry name.now table.now) loaded.now.titles loaded.now.rules.definition)) text.items) }
+        (titled (named_entry name.now table.now) compiled.now.header compiled.now.rules.definition)) text.items) }
 {
-    let history = history_of(alloc, &loaded.rules, part)?;
+    let history = history_of(alloc, &compiled.rules, part)?;
     render_history(
         alloc,
         name,
         &history,
         table,
-        loaded.rules.handlers(),
-        loaded.titles.texts.as_slice(),
+        compiled.rules.handlers(),
+        compiled.header.texts.as_slice(),
         objects,
     )
 }

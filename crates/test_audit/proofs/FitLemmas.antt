@@ -1,4 +1,4 @@
--- Scripts that were read over a library fit the sheets of its specifications.
+-- Scripts that were read over a spec set fit the sheets of its specifications.
 use Rattle.std.proofs.Common.{◌≡◌, ℕ, zero, suc, ◌+◌, ◌^◌, ◌<◌, ◌≤◌, List, [], ◌∷◌, ◌++◌, length, get_or, map, length-append, pow-suc, refl, sym, ◌∙◌, ap, subst, inl, inr, arith}
 use Rattle.std.specs.Prelude.{◌⊎◌, All, Option, Some, None, slice_get, unwrap_or, option_map}
 use Rattle.std.specs.Option.{option_map_or}
@@ -23,8 +23,8 @@ use Rattle.jm_script.specs.declared.script.ScriptLine.{ScriptLine}
 use Rattle.jm_script.proofs.FittingLemmas.{projection_fits}
 use Rattle.jm_machine.specs.Meanings.{PropertyDefinition, RuleDefinition, handler_count, rules_meaning}
 use Rattle.jm_machine.specs.HandlerNames.{numbered, numbered_from, names_for, names_of}
-use Rattle.jm_inputs.specs.declared.specification.Loaded.{Loaded}
-use Rattle.jm_inputs.specs.declared.library.Library.{Library}
+use Rattle.jm_inputs.specs.declared.specification.CompiledSpec.{CompiledSpec}
+use Rattle.jm_inputs.specs.declared.spec_set.SpecSet.{SpecSet}
 use Rattle.jm_inputs.specs.declared.scripts.Scripts.{Scripts}
 use Rattle.jm_inputs.specs.Scripts.{entry_of, catalog_of}
 use Rattle.jm_inputs.specs.Reading.{Listed, named_entry, listing, listed, listed_in, AreRulesOf, specification_of, IsWhole, specs_in, IsCatalogued, AreCounted}
@@ -102,8 +102,8 @@ module _ (entry : CatalogEntry) (rules : RuleDefinition) (whole : AreRulesOf ent
   named_step l n events parameters objects (Death o) fits = subst (λ k. o < k) (sym objects) fits
   named_step l n events parameters objects Pass fits = tt
 
--- ---- what is kept of a specification in its library
-listed_at : (es : List CatalogEntry) (ls : List Loaded) (k : ℕ) (name : List ℕ) (table : EventDefinitions) (l : Loaded) → length es ≡ length ls
+-- ---- what is kept of a specification in its spec set
+listed_at : (es : List CatalogEntry) (ls : List CompiledSpec) (k : ℕ) (name : List ℕ) (table : EventDefinitions) (l : CompiledSpec) → length es ≡ length ls
     → option_map (λ e. e.name) (slice_get es k) ≡ Some name → option_map (λ e. e.table) (slice_get es k) ≡ Some table → l ≡ get_or ls k l
     → slice_get (listed es ls) k ≡ Some (listing (named_entry name table) l)
 listed_at [] ls k name table l same named there here = absurd cc
@@ -139,17 +139,17 @@ count_names r = count_for r.properties
     count_for (p ∷ q ∷ ps) = count_numbered 0 (p ∷ q ∷ ps)
 
 -- the steps of the scripts fit the sheet of the specification of this number
-own_fits : (library : Library) (scripts : Scripts) → IsCatalogued library → AreCounted (specs_in library) scripts → (n : ℕ) (name : List ℕ) (table : EventDefinitions) (l : Loaded)
-    → option_map (λ e. e.name) (slice_get library.catalog n) ≡ Some name → option_map (λ e. e.table) (slice_get library.catalog n) ≡ Some table → l ≡ get_or library.specs.items n l
-    → AreFit (rules_meaning l.rules.definition) (lexicon_of name table (names_of l.rules.definition) scripts.objects l.titles.texts.items) (steps_on scripts.list.items n)
-own_fits library scripts catalogued counted n name table l named there here =
+own_fits : (spec_set : SpecSet) (scripts : Scripts) → IsCatalogued spec_set → AreCounted (specs_in spec_set) scripts → (n : ℕ) (name : List ℕ) (table : EventDefinitions) (l : CompiledSpec)
+    → option_map (λ e. e.name) (slice_get spec_set.catalog n) ≡ Some name → option_map (λ e. e.table) (slice_get spec_set.catalog n) ≡ Some table → l ≡ get_or spec_set.specs.items n l
+    → AreFit (rules_meaning l.rules.definition) (lexicon_of name table (names_of l.rules.definition) scripts.objects l.header.texts.items) (steps_on scripts.list.items n)
+own_fits spec_set scripts catalogued counted n name table l named there here =
     let rules = l.rules.definition in
-    let words : Lexicon = lexicon_of name table (names_of rules) scripts.objects l.titles.texts.items in
+    let words : Lexicon = lexicon_of name table (names_of rules) scripts.objects l.header.texts.items in
     let entry : CatalogEntry = named_entry name table in
-    let catalog : List CatalogEntry = catalog_of (specs_in library) in
-    let at : slice_get (listed_in library) n ≡ Some (listing entry l) = listed_at library.catalog library.specs.items n name table l catalogued.many named there here in
-    let whole : AreRulesOf entry rules = All-at IsWhole (listed_in library) n (listing entry l) catalogued.kept at in
-    let table_there : table_of catalog n ≡ table = table_at (listed_in library) n (listing entry l) at in
+    let catalog : List CatalogEntry = catalog_of (specs_in spec_set) in
+    let at : slice_get (listed_in spec_set) n ≡ Some (listing entry l) = listed_at spec_set.catalog spec_set.specs.items n name table l catalogued.many named there here in
+    let whole : AreRulesOf entry rules = All-at IsWhole (listed_in spec_set) n (listing entry l) catalogued.kept at in
+    let table_there : table_of catalog n ≡ table = table_at (listed_in spec_set) n (listing entry l) at in
     record {
       handlers = omega (arith, count_names rules);
       steps = λ k own is.
@@ -162,12 +162,12 @@ own_fits library scripts catalogued counted n name table l named there here =
     }
 
 -- and so they do by any names that are the same
-pub sheet_fits : (library : Library) (scripts : Scripts) → IsCatalogued library → AreCounted (specs_in library) scripts → (n : ℕ) (name : List ℕ) (table : EventDefinitions) (l : Loaded)
-    → option_map (λ e. e.name) (slice_get library.catalog n) ≡ Some name → option_map (λ e. e.table) (slice_get library.catalog n) ≡ Some table → l ≡ get_or library.specs.items n l
-    → (words : Lexicon) → words ≡ lexicon_of name table (names_of l.rules.definition) scripts.objects l.titles.texts.items
+pub sheet_fits : (spec_set : SpecSet) (scripts : Scripts) → IsCatalogued spec_set → AreCounted (specs_in spec_set) scripts → (n : ℕ) (name : List ℕ) (table : EventDefinitions) (l : CompiledSpec)
+    → option_map (λ e. e.name) (slice_get spec_set.catalog n) ≡ Some name → option_map (λ e. e.table) (slice_get spec_set.catalog n) ≡ Some table → l ≡ get_or spec_set.specs.items n l
+    → (words : Lexicon) → words ≡ lexicon_of name table (names_of l.rules.definition) scripts.objects l.header.texts.items
     → AreFit (rules_meaning l.rules.definition) words (steps_on scripts.list.items n)
-sheet_fits library scripts catalogued counted n name table l named there here words same =
-    subst (λ (w : Lexicon). AreFit (rules_meaning l.rules.definition) w (steps_on scripts.list.items n)) (sym same) (own_fits library scripts catalogued counted n name table l named there here)
+sheet_fits spec_set scripts catalogued counted n name table l named there here words same =
+    subst (λ (w : Lexicon). AreFit (rules_meaning l.rules.definition) w (steps_on scripts.list.items n)) (sym same) (own_fits spec_set scripts catalogued counted n name table l named there here)
 
 -- ---- sheet by sheet
 pub many_more : {X : Type 0} (xs ys : List X) (x : X) (n : ℕ) → ys ≡ xs ++ x ∷ [] → length xs ≡ n → length ys ≡ n + 1

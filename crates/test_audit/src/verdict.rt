@@ -9,23 +9,23 @@ use std::alloc::Global;
 
 /// The verdict on a text, over the specifications and the scripts that were read.
 pub(crate) fn verdict(alloc: Global, inputs: &Inputs, text: &[u8]) -> Result<Verdict, NoMemory>
-    requires catalogued { IsCatalogued inputs.now.library }
-    requires counted { AreCounted (specs_in inputs.now.library) inputs.now.scripts }
+    requires catalogued { IsCatalogued inputs.now.spec_set }
+    requires counted { AreCounted (specs_in inputs.now.spec_set) inputs.now.scripts }
 {
-    let library = &inputs.library;
+    let spec_set = &inputs.spec_set;
     let scripts = &inputs.scripts;
     if scripts.list.len() > 16 {
         return Err(NoMemory);
     }
     let mut sheets = Vec::new(alloc);
-    for number in 0..library.catalog.len() {
-        let loaded = &library.specs[number as usize];
+    for number in 0..spec_set.catalog.len() {
+        let compiled = &spec_set.specs[number as usize];
         sheets.push(Sheet {
-            rules: &loaded.rules,
-            name: library.catalog.name(number),
-            table: library.catalog.table(number),
-            categories: loaded.rules.handlers(),
-            handlers: loaded.titles.texts.as_slice(),
+            rules: &compiled.rules,
+            name: spec_set.catalog.name(number),
+            table: spec_set.catalog.table(number),
+            categories: compiled.rules.handlers(),
+            handlers: compiled.header.texts.as_slice(),
         })?;
     }
     audit(

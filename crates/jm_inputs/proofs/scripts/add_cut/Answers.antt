@@ -13,11 +13,11 @@ returns-clause-read c =
     let cut = c.in_ok-rest in
     let rest : c.as_slice.result.now ≡ rest_of c.args.bytes.now = c.as_slice.ensures.value ∙ cut.ensures.rest in
     ok_then _ _ c.add_steps.result
-    (script_cut (specs_in c.args.library.now) c.args.bytes.now c.requires.small c.as_slice.result.now rest c.args.scripts.now c.cut.new.names cut.ensures.ok c.add_steps.new.scripts cut.field-0.lines.items c.requires.counted cut.ensures.lines cut.ensures.rising cut.ensures.named)
+    (script_cut (specs_in c.args.spec_set.now) c.args.bytes.now c.requires.small c.as_slice.result.now rest c.args.scripts.now c.cut.new.names cut.ensures.ok c.add_steps.new.scripts cut.field-0.lines.items c.requires.counted cut.ensures.lines cut.ensures.rising cut.ensures.named)
     c.add_steps.ensures.read
 
 pub returns-clause-fault : goal.returns-clause-fault
 returns-clause-fault c = λ fault is.
     let cut = c.in_ok-rest in
     let rest : c.as_slice.result.now ≡ rest_of c.args.bytes.now = c.as_slice.ensures.value ∙ cut.ensures.rest in
-    cut_refused (specs_in c.args.library.now) c.args.bytes.now c.requires.small c.as_slice.result.now rest c.args.scripts.now c.cut.new.names cut.ensures.ok fault (c.add_steps.ensures.fault fault is)
+    cut_refused (specs_in c.args.spec_set.now) c.args.bytes.now c.requires.small c.as_slice.result.now rest c.args.scripts.now c.cut.new.names cut.ensures.ok fault (c.add_steps.ensures.fault fault is)

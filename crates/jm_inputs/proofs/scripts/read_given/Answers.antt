@@ -16,4 +16,4 @@ pub returns-clause-err : goal.returns-clause-err
 returns-clause-err c =
     let old = c.args.scripts.now in
     let many : c.len-number.result ≡ length old.list.items = omega (arith, c.len-number.ensures, c.args.scripts.now.list.ok.0) in
-    subst (λ (n : ℕ). IfErr c.read_bytes.result (IsNoScriptFileIn true (specs_in c.args.library.now) old.count old.objects n c.args.bytes.now)) many c.read_bytes.ensures.err
+    subst (λ (n : ℕ). IfErr c.read_bytes.result (IsNoScriptFileIn true (specs_in c.args.spec_set.now) old.count old.objects n c.args.bytes.now)) many c.read_bytes.ensures.err

@@ -7,6 +7,6 @@ use Rattle.jm_inputs.proofs.scripts.read_scripts.Given as goal
 
 abbrev pub invariant-loop-name : goal.invariant-loop-name
 invariant-loop-name g l = record {
-  read : AreScriptsRead (g.F.Folder.holds l.initial.files) l.setting.ordered (specs_in l.library) l.setting.steps (named (map string_bytes (take l.name-index l.names))) l.scripts;
+  read : AreScriptsRead (g.F.Folder.holds l.initial.files) l.setting.ordered (specs_in l.spec_set) l.setting.steps (named (map string_bytes (take l.name-index l.names))) l.scripts;
   files : AreOnlyRead (g.F.Folder.holds l.initial.files) (g.F.Folder.holds l.files) (g.F.Folder.faults l.initial.files) (g.F.Folder.faults l.files);
 }

@@ -38,8 +38,8 @@ returns-in_err-rules-clause-err c = λ fault is.
 pub returns-clause-ok : goal.returns-clause-ok
 returns-clause-ok c =
     let told = rw c.as_slice.ensures.value at c.in_ok-tree.ensures.ok in
-    let say = rw c.as_slice-3.ensures.value at c.in_ok-titles.ensures.texts in
+    let say = rw c.as_slice-3.ensures.value at c.in_ok-header.ensures.texts in
     let compiled = rw c.as_slice-2.ensures.value at c.in_ok-rules.ensures.ok in
-    read_of c.args.bytes.now c.in_ok-tokens.tokens.items c.requires c.in_ok-tokens.ensures.ok c.in_ok-tree.tree c.put_together.result c.in_ok-rules.rules c.in_ok-titles.titles told compiled
-    c.in_ok-rules.ensures.fit c.in_ok-rules.ensures.bounded c.in_ok-titles.ensures.logics c.in_ok-titles.ensures.grammar_line c.in_ok-titles.ensures.full_binding c.in_ok-titles.ensures.suffix say
-    c.put_together.ensures.rules c.put_together.ensures.titles (c.put_together.ensures.name ∙ c.name_of-name.ensures) c.put_together.ensures.table
+    read_of c.args.bytes.now c.in_ok-tokens.tokens.items c.requires c.in_ok-tokens.ensures.ok c.in_ok-tree.tree c.put_together.result c.in_ok-rules.rules c.in_ok-header.header told compiled
+    c.in_ok-rules.ensures.fit c.in_ok-rules.ensures.bounded c.in_ok-header.ensures.logics c.in_ok-header.ensures.grammar_line c.in_ok-header.ensures.full_binding c.in_ok-header.ensures.suffix say
+    c.put_together.ensures.rules c.put_together.ensures.header (c.put_together.ensures.name ∙ c.name_of-name.ensures) c.put_together.ensures.table

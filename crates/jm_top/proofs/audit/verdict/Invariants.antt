@@ -8,6 +8,6 @@ use Rattle.jm_top.proofs.audit.verdict.Given as goal
 abbrev pub invariant-loop-number : goal.invariant-loop-number
 invariant-loop-number l = record {
   fit : FitSheets (λ s. rules_meaning s.rules.now.definition) (lexicon l.scripts.objects) l.scripts.list.items l.sheets.items;
-  same : AreSheetsOf (λ s. s.rules.now.definition) (lexicon l.scripts.objects) l.scripts.list.items l.sheets.items (specs_in l.library) l.scripts.objects;
+  same : AreSheetsOf (λ s. s.rules.now.definition) (lexicon l.scripts.objects) l.scripts.list.items l.sheets.items (specs_in l.spec_set) l.scripts.objects;
   many : length l.sheets.items ≡ l.number;
 }

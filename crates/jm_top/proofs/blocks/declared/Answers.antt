@@ -4,7 +4,7 @@ use Rattle.std.specs.List.{flat_map}
 use Rattle.std.proofs.lemmas.List.{take_all}
 use Rattle.jm_inputs.specs.Reading.{listed, specification_of}
 use Rattle.jm_top.specs.Texts.{declared_text}
-use Rattle.jm_inputs.proofs.LibraryLemmas.{length-listed}
+use Rattle.jm_inputs.proofs.SpecSetLemmas.{length-listed}
 use Rattle.jm_top.proofs.TextLemmas.{entry_there, listed_there, declared_more}
 use Rattle.jm_top.proofs.blocks.declared.Goals as goal
 

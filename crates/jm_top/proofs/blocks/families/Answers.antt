@@ -4,7 +4,7 @@ use Rattle.std.proofs.lemmas.List.{take_all}
 use Rattle.jm_machine.specs.Meanings.{has_grammar}
 use Rattle.jm_inputs.specs.Reading.{Listed, listing, named_entry, listed, specification_of, IsWhole}
 use Rattle.jm_top.specs.Texts.{IsTextOfFamilies}
-use Rattle.jm_inputs.proofs.LibraryLemmas.{length-listed}
+use Rattle.jm_inputs.proofs.SpecSetLemmas.{length-listed}
 use Rattle.jm_top.proofs.TextLemmas.{entry_there, listed_there, All-place, families_more}
 use Rattle.jm_top.proofs.blocks.families.Goals as goal
 

@@ -7,4 +7,4 @@ use Rattle.jm_top.proofs.TextLemmas.{rules_of}
 use Rattle.jm_top.proofs.histories.histories_text.Given as goal
 
 abbrev pub invariant-loop-spec : goal.invariant-loop-spec
-invariant-loop-spec l = l.text.items ≡ texts_of (map (lexicon l.objects) (take l.spec (titled_by l.catalog l.titles (rules_of l.ended)))) (map (λ p. p.history) (take l.spec l.ended))
+invariant-loop-spec l = l.text.items ≡ texts_of (map (lexicon l.objects) (take l.spec (titled_by l.catalog l.headers (rules_of l.ended)))) (map (λ p. p.history) (take l.spec l.ended))

@@ -8,7 +8,7 @@ use Rattle.jm_inputs.specs.Commands.{named}
 use Rattle.jm_inputs.specs.Reading.{specs_in}
 use Rattle.jm_inputs.proofs.OneReadingLemmas.{same_err}
 use Rattle.jm_inputs.proofs.JobLemmas.{risen_before}
-use Rattle.jm_inputs.proofs.LibraryLemmas.{library_length}
+use Rattle.jm_inputs.proofs.SpecSetLemmas.{spec_set_length}
 use Rattle.jm_inputs.proofs.ScriptLemmas.{scripts_length}
 use Rattle.jm_inputs.proofs.StopLemmas.{inputs_before, stops_before, audit_stops, audit_unloaded}
 use Rattle.jm_top.proofs.CommandLemmas.{audit_made}
@@ -43,16 +43,16 @@ returns-in_err-inputs-clause-read_failed g c = λ file is.
 
 pub verdict_on-requires-clause-specs : goal.verdict_on-requires-clause-specs
 verdict_on-requires-clause-specs g c =
-    let many = library_length (λ n. Named n) string_bytes (g.F.Folder.holds c.load.new.files) _ c.args.specs.now c.in_ok-inputs.inputs.library c.in_ok-inputs.ensures.read.library in
+    let many = spec_set_length (λ n. Named n) string_bytes (g.F.Folder.holds c.load.new.files) _ c.args.specs.now c.in_ok-inputs.inputs.spec_set c.in_ok-inputs.ensures.read.spec_set in
     omega (arith, many, c.requires.specs.1, length-map c.args.specs.now string_bytes)
 
 pub verdict_on-requires-clause-scripts : goal.verdict_on-requires-clause-scripts
 verdict_on-requires-clause-scripts g c =
-    let many = scripts_length (λ n. Named n) string_bytes (g.F.Folder.holds c.load.new.files) false (specs_in c.in_ok-inputs.inputs.library) 198000 c.args.scripts.now c.in_ok-inputs.inputs.scripts c.in_ok-inputs.ensures.read.read.read in
+    let many = scripts_length (λ n. Named n) string_bytes (g.F.Folder.holds c.load.new.files) false (specs_in c.in_ok-inputs.inputs.spec_set) 198000 c.args.scripts.now c.in_ok-inputs.inputs.scripts c.in_ok-inputs.ensures.read.read.read in
     omega (arith, many, c.requires.scripts.1, length-map c.args.scripts.now string_bytes)
 
 pub verdict_on-requires-clause-catalogued : goal.verdict_on-requires-clause-catalogued
-verdict_on-requires-clause-catalogued g c = c.in_ok-inputs.ensures.read.library.catalogued
+verdict_on-requires-clause-catalogued g c = c.in_ok-inputs.ensures.read.spec_set.catalogued
 
 pub verdict_on-requires-clause-counted : goal.verdict_on-requires-clause-counted
 verdict_on-requires-clause-counted g c = c.in_ok-inputs.ensures.read.read.read.counted

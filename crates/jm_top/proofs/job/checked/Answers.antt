@@ -5,13 +5,13 @@ use Rattle.jm_top.proofs.CommandLemmas.{check_made}
 use Rattle.jm_inputs.proofs.StopLemmas.{check_stops}
 use Rattle.jm_top.proofs.job.checked.Goals as goal
 
-pub returns-in_err-library-clause-carried_out : goal.returns-in_err-library-clause-carried_out
-returns-in_err-library-clause-carried_out g c =
+pub returns-in_err-spec_set-clause-carried_out : goal.returns-in_err-spec_set-clause-carried_out
+returns-in_err-spec_set-clause-carried_out g c =
     let p = err_from_is_err_and c.from_residual.result c.from_residual.ensures.1 in
-    rw (p.1, p.2) (check_stops (g.F.Folder.holds c.args.files.now) (map string_bytes c.args.specs.now) _ c.in_err-library.ensures.err)
+    rw (p.1, p.2) (check_stops (g.F.Folder.holds c.args.files.now) (map string_bytes c.args.specs.now) _ c.in_err-spec_set.ensures.err)
 
 pub declared-requires : goal.declared-requires
-declared-requires g c = rw c.as_slice.ensures.value c.in_ok-library.ensures.read.catalogued.many
+declared-requires g c = rw c.as_slice.ensures.value c.in_ok-spec_set.ensures.read.catalogued.many
 
 pub returns-in_err-text-clause-carried_out : goal.returns-in_err-text-clause-carried_out
 returns-in_err-text-clause-carried_out g c =
@@ -20,4 +20,4 @@ returns-in_err-text-clause-carried_out g c =
 
 pub returns-clause-carried_out : goal.returns-clause-carried_out
 returns-clause-carried_out g c =
-    check_made (g.F.Folder.holds c.args.files.now) (map string_bytes c.args.specs.now) c.in_ok-library.library c.in_ok-text.text.items c.in_ok-library.ensures.read (rw c.as_slice.ensures.value at c.in_ok-text.ensures)
+    check_made (g.F.Folder.holds c.args.files.now) (map string_bytes c.args.specs.now) c.in_ok-spec_set.spec_set c.in_ok-text.text.items c.in_ok-spec_set.ensures.read (rw c.as_slice.ensures.value at c.in_ok-text.ensures)

@@ -6,19 +6,19 @@ use Rattle.jm_top.proofs.CommandLemmas.{coenable_made}
 use Rattle.jm_inputs.proofs.StopLemmas.{coenable_stops, tables_in}
 use Rattle.jm_top.proofs.job.coenabled.Goals as goal
 
-pub returns-in_err-library-clause-carried_out : goal.returns-in_err-library-clause-carried_out
-returns-in_err-library-clause-carried_out g c =
+pub returns-in_err-spec_set-clause-carried_out : goal.returns-in_err-spec_set-clause-carried_out
+returns-in_err-spec_set-clause-carried_out g c =
     let p = err_from_is_err_and c.from_residual.result c.from_residual.ensures.1 in
-    rw (p.1, p.2) (coenable_stops (g.F.Folder.holds c.args.files.now) (map string_bytes c.args.specs.now) _ c.in_err-library.ensures.err)
+    rw (p.1, p.2) (coenable_stops (g.F.Folder.holds c.args.files.now) (map string_bytes c.args.specs.now) _ c.in_err-spec_set.ensures.err)
 
 pub families-requires-clause-many : goal.families-requires-clause-many
-families-requires-clause-many g c = rw c.as_slice.ensures.value c.in_ok-library.ensures.read.catalogued.many
+families-requires-clause-many g c = rw c.as_slice.ensures.value c.in_ok-spec_set.ensures.read.catalogued.many
 
 pub families-requires-clause-whole : goal.families-requires-clause-whole
-families-requires-clause-whole g c = rw c.as_slice.ensures.value c.in_ok-library.ensures.read.catalogued.kept
+families-requires-clause-whole g c = rw c.as_slice.ensures.value c.in_ok-spec_set.ensures.read.catalogued.kept
 
 pub families-requires-clause-tables : goal.families-requires-clause-tables
-families-requires-clause-tables g c = rw c.as_slice.ensures.value (tables_in (g.F.Folder.holds c.args.files.now) (named (map string_bytes c.args.specs.now)) c.in_ok-library.library c.in_ok-library.ensures.read)
+families-requires-clause-tables g c = rw c.as_slice.ensures.value (tables_in (g.F.Folder.holds c.args.files.now) (named (map string_bytes c.args.specs.now)) c.in_ok-spec_set.spec_set c.in_ok-spec_set.ensures.read)
 
 pub returns-in_err-text-clause-carried_out : goal.returns-in_err-text-clause-carried_out
 returns-in_err-text-clause-carried_out g c =
@@ -27,4 +27,4 @@ returns-in_err-text-clause-carried_out g c =
 
 pub returns-clause-carried_out : goal.returns-clause-carried_out
 returns-clause-carried_out g c =
-    coenable_made (g.F.Folder.holds c.args.files.now) (map string_bytes c.args.specs.now) c.in_ok-library.library c.in_ok-text.text.items c.in_ok-library.ensures.read (rw c.as_slice.ensures.value at c.in_ok-text.ensures)
+    coenable_made (g.F.Folder.holds c.args.files.now) (map string_bytes c.args.specs.now) c.in_ok-spec_set.spec_set c.in_ok-text.text.items c.in_ok-spec_set.ensures.read (rw c.as_slice.ensures.value at c.in_ok-text.ensures)

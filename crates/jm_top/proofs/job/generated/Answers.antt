@@ -3,7 +3,7 @@ use Rattle.std.proofs.lemmas.Result.{err_from_is_err_and}
 use Rattle.jm_inputs.specs.Causes.{short}
 use Rattle.jm_inputs.specs.Reading.{specs_in}
 use Rattle.jm_top.proofs.CommandLemmas.{gen_made}
-use Rattle.jm_inputs.proofs.StopLemmas.{workload_library, workload_many}
+use Rattle.jm_inputs.proofs.StopLemmas.{workload_spec_set, workload_many}
 use Rattle.jm_top.proofs.job.generated.Goals as goal
 
 pub returns-in_err-inputs : goal.returns-in_err-inputs
@@ -14,12 +14,12 @@ returns-in_err-inputs g c = λ contents.
 pub run_in_short-requires-clause-ready : goal.run_in_short-requires-clause-ready
 run_in_short-requires-clause-ready g c =
     let read = c.in_ok-inputs.ensures.read (λ name. None) in
-    let specs = workload_library (λ name. None) c.in_ok-inputs.inputs.library read.library in
-    let scripts = workload_many (λ name. None) (specs_in c.in_ok-inputs.inputs.library) c.args.n c.in_ok-inputs.inputs.scripts read.read in
+    let specs = workload_spec_set (λ name. None) c.in_ok-inputs.inputs.spec_set read.spec_set in
+    let scripts = workload_many (λ name. None) (specs_in c.in_ok-inputs.inputs.spec_set) c.args.n c.in_ok-inputs.inputs.scripts read.read in
     λ words bounds. record {
       specs = (omega (arith, specs), omega (arith, specs));
       scripts = (omega (arith, scripts), omega (arith, scripts));
-      catalogued = read.library.catalogued;
+      catalogued = read.spec_set.catalogued;
       counted = read.read.read.counted;
       sound = read.read.sound;
     }

@@ -5,7 +5,7 @@ use Rattle.std.proofs.lemmas.List.{length-map}
 use Rattle.jm_inputs.specs.Sources.{Named}
 use Rattle.jm_inputs.specs.Causes.{short}
 use Rattle.jm_inputs.specs.Reading.{specs_in}
-use Rattle.jm_inputs.proofs.LibraryLemmas.{library_length}
+use Rattle.jm_inputs.proofs.SpecSetLemmas.{spec_set_length}
 use Rattle.jm_inputs.proofs.ScriptLemmas.{scripts_length}
 use Rattle.jm_top.proofs.CommandLemmas.{run_made}
 use Rattle.jm_inputs.proofs.StopLemmas.{run_stops}
@@ -26,12 +26,12 @@ pub run-requires-clause-ready : goal.run-requires-clause-ready
 run-requires-clause-ready g c =
     let contents = g.F.Folder.holds c.args.files.now in
     let read = c.in_ok-inputs.ensures.read in
-    let specs = library_length (λ n. Named n) string_bytes contents _ c.args.specs.now c.in_ok-inputs.inputs.library read.library in
-    let scripts = scripts_length (λ n. Named n) string_bytes contents true (specs_in c.in_ok-inputs.inputs.library) 0 c.args.scripts.now c.in_ok-inputs.inputs.scripts read.read.read in
+    let specs = spec_set_length (λ n. Named n) string_bytes contents _ c.args.specs.now c.in_ok-inputs.inputs.spec_set read.spec_set in
+    let scripts = scripts_length (λ n. Named n) string_bytes contents true (specs_in c.in_ok-inputs.inputs.spec_set) 0 c.args.scripts.now c.in_ok-inputs.inputs.scripts read.read.read in
     λ words bounds. record {
       specs = (omega (arith, specs, c.requires.specs.0, length-map c.args.specs.now string_bytes), omega (arith, specs, c.requires.specs.1, length-map c.args.specs.now string_bytes));
       scripts = (omega (arith, scripts, c.requires.scripts.0, length-map c.args.scripts.now string_bytes), omega (arith, scripts, c.requires.scripts.1, length-map c.args.scripts.now string_bytes));
-      catalogued = read.library.catalogued;
+      catalogued = read.spec_set.catalogued;
       counted = read.read.read.counted;
       sound = read.read.sound;
     }

@@ -4,7 +4,7 @@ use Rattle.std.proofs.lemmas.Result.{err_from_is_err_and}
 use Rattle.jm_inputs.specs.Sources.{Named}
 use Rattle.jm_inputs.specs.Causes.{short}
 use Rattle.jm_inputs.specs.Reading.{specs_in}
-use Rattle.jm_inputs.proofs.LibraryLemmas.{library_length}
+use Rattle.jm_inputs.proofs.SpecSetLemmas.{spec_set_length}
 use Rattle.jm_inputs.proofs.ScriptLemmas.{scripts_length}
 use Rattle.jm_top.proofs.CommandLemmas.{replay_made}
 use Rattle.jm_inputs.proofs.StopLemmas.{replay_stops}
@@ -17,16 +17,16 @@ returns-in_err-inputs-clause-carried_out g c =
 
 pub replay-requires-clause-one_spec : goal.replay-requires-clause-one_spec
 replay-requires-clause-one_spec g c =
-    let many = library_length (λ n. Named n) string_bytes (g.F.Folder.holds c.args.files.now) _ c.from_ref.result.now c.in_ok-inputs.inputs.library c.in_ok-inputs.ensures.read.library in
+    let many = spec_set_length (λ n. Named n) string_bytes (g.F.Folder.holds c.args.files.now) _ c.from_ref.result.now c.in_ok-inputs.inputs.spec_set c.in_ok-inputs.ensures.read.spec_set in
     many ∙ c.from_ref.ensures.len
 
 pub replay-requires-clause-one_script : goal.replay-requires-clause-one_script
 replay-requires-clause-one_script g c =
-    let many = scripts_length (λ n. Named n) string_bytes (g.F.Folder.holds c.args.files.now) true (specs_in c.in_ok-inputs.inputs.library) 0 c.from_ref-2.result.now c.in_ok-inputs.inputs.scripts c.in_ok-inputs.ensures.read.read.read in
+    let many = scripts_length (λ n. Named n) string_bytes (g.F.Folder.holds c.args.files.now) true (specs_in c.in_ok-inputs.inputs.spec_set) 0 c.from_ref-2.result.now c.in_ok-inputs.inputs.scripts c.in_ok-inputs.ensures.read.read.read in
     many ∙ c.from_ref-2.ensures.len
 
 pub replay-requires-clause-catalogued : goal.replay-requires-clause-catalogued
-replay-requires-clause-catalogued g c = c.in_ok-inputs.ensures.read.library.catalogued
+replay-requires-clause-catalogued g c = c.in_ok-inputs.ensures.read.spec_set.catalogued
 
 pub replay-requires-clause-counted : goal.replay-requires-clause-counted
 replay-requires-clause-counted g c = c.in_ok-inputs.ensures.read.read.read.counted

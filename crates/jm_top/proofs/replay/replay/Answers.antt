@@ -7,26 +7,26 @@ use Rattle.jm_top.proofs.replay.replay.Goals as goal
 
 pub replay_blocks-requires-clause-steps : goal.replay_blocks-requires-clause-steps
 replay_blocks-requires-clause-steps c =
-    let library = c.args.library in
+    let spec_set = c.args.spec_set in
     let scripts = c.args.scripts in
-    let fits = script_fits library c.requires.catalogued scripts c.requires.counted c.requires.one_script _ c.in-Some.script c.in-Some.ensures.items in
-    let own = c.in_ok-blocks.ensures.fitting (catalog_of (specs_in library)) (length scripts.objects) 0 fits in
-    (own_doable library c.requires.catalogued scripts c.requires.counted c.requires.one_script _ c.in-Some.script c.in-Some.ensures.items _ c.in-Some-pop.loaded c.in-Some-pop.ensures.items c.requires.one_spec c.name.result.now c.table.result.now c.name.ensures c.table.ensures (steps_in 0 c.in_ok-blocks.blocks.items) own)
+    let fits = script_fits spec_set c.requires.catalogued scripts c.requires.counted c.requires.one_script _ c.in-Some.script c.in-Some.ensures.items in
+    let own = c.in_ok-blocks.ensures.fitting (catalog_of (specs_in spec_set)) (length scripts.objects) 0 fits in
+    (own_doable spec_set c.requires.catalogued scripts c.requires.counted c.requires.one_script _ c.in-Some.script c.in-Some.ensures.items _ c.in-Some-pop.compiled c.in-Some-pop.ensures.items c.requires.one_spec c.name.result.now c.table.result.now c.name.ensures c.table.ensures (steps_in 0 c.in_ok-blocks.blocks.items) own)
 
 pub replay_blocks-requires-clause-printable : goal.replay_blocks-requires-clause-printable
 replay_blocks-requires-clause-printable c = λ h is.
-    let library = c.args.library in
+    let spec_set = c.args.spec_set in
     let scripts = c.args.scripts in
-    let fits = script_fits library c.requires.catalogued scripts c.requires.counted c.requires.one_script _ c.in-Some.script c.in-Some.ensures.items in
-    let own = c.in_ok-blocks.ensures.fitting (catalog_of (specs_in library)) (length scripts.objects) 0 fits in
-    own_printable library c.requires.catalogued scripts c.requires.counted c.requires.one_script _ c.in-Some.script c.in-Some.ensures.items _ c.in-Some-pop.loaded c.in-Some-pop.ensures.items c.requires.one_spec c.name.result.now c.table.result.now c.name.ensures c.table.ensures (steps_in 0 c.in_ok-blocks.blocks.items) own h is
+    let fits = script_fits spec_set c.requires.catalogued scripts c.requires.counted c.requires.one_script _ c.in-Some.script c.in-Some.ensures.items in
+    let own = c.in_ok-blocks.ensures.fitting (catalog_of (specs_in spec_set)) (length scripts.objects) 0 fits in
+    own_printable spec_set c.requires.catalogued scripts c.requires.counted c.requires.one_script _ c.in-Some.script c.in-Some.ensures.items _ c.in-Some-pop.compiled c.in-Some-pop.ensures.items c.requires.one_spec c.name.result.now c.table.result.now c.name.ensures c.table.ensures (steps_in 0 c.in_ok-blocks.blocks.items) own h is
 
 pub returns : goal.returns
 returns c =
-    let library = c.args.library in
+    let spec_set = c.args.spec_set in
     let scripts = c.args.scripts in
-    let fits = script_fits library c.requires.catalogued scripts c.requires.counted c.requires.one_script _ c.in-Some.script c.in-Some.ensures.items in
-    let own = c.in_ok-blocks.ensures.fitting (catalog_of (specs_in library)) (length scripts.objects) 0 fits in
+    let fits = script_fits spec_set c.requires.catalogued scripts c.requires.counted c.requires.one_script _ c.in-Some.script c.in-Some.ensures.items in
+    let own = c.in_ok-blocks.ensures.fitting (catalog_of (specs_in spec_set)) (length scripts.objects) 0 fits in
     made_text (λ text. text.items) _ _ c.replay_blocks.result
-    (own_text library c.requires.catalogued scripts c.requires.counted c.requires.one_script _ c.in-Some.script c.in-Some.ensures.items _ c.in-Some-pop.loaded c.in-Some-pop.ensures.items c.requires.one_spec c.name.result.now c.table.result.now c.name.ensures c.table.ensures (steps_in 0 c.in_ok-blocks.blocks.items) own (c.in_ok-blocks.ensures.value 0) c.requires.sound)
+    (own_text spec_set c.requires.catalogued scripts c.requires.counted c.requires.one_script _ c.in-Some.script c.in-Some.ensures.items _ c.in-Some-pop.compiled c.in-Some-pop.ensures.items c.requires.one_spec c.name.result.now c.table.result.now c.name.ensures c.table.ensures (steps_in 0 c.in_ok-blocks.blocks.items) own (c.in_ok-blocks.ensures.value 0) c.requires.sound)
     c.replay_blocks.ensures

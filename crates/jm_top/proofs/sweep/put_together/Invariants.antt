@@ -5,4 +5,4 @@ use Rattle.jm_top.specs.Sweeps.{IsSwept}
 use Rattle.jm_top.proofs.sweep.put_together.Given as goal
 
 abbrev pub invariant-loop-number : goal.invariant-loop-number
-invariant-loop-number l = IsSwept (specs_in l.library) (map (span_text l.bytes) (take l.number l.spans)) l.count l.text.items
+invariant-loop-number l = IsSwept (specs_in l.spec_set) (map (span_text l.bytes) (take l.number l.spans)) l.count l.text.items

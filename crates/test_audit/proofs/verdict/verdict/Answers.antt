@@ -15,10 +15,10 @@ pub loop-number-preserved : goal.loop-number-preserved
 loop-number-preserved c =
     let inputs = c.args.inputs.now in
     let n = c.loop-number.number in
-    let loaded = c.index-loaded.result.now in
+    let compiled = c.index-compiled.result.now in
     record {
       fit = fit_more (λ s. rules_meaning s.rules.now.definition) (lexicon inputs.scripts.objects) inputs.scripts.list.items c.loop-number.sheets.items _ _ n c.in_ok-push.ensures.items c.loop-number.invariant.many c.loop-number.invariant.fit
-          (sheet_fits inputs.library inputs.scripts c.requires.catalogued c.requires.counted n c.name.result.now c.table.result.now loaded c.name.ensures c.table.ensures c.index-loaded.ensures
+          (sheet_fits inputs.spec_set inputs.scripts c.requires.catalogued c.requires.counted n c.name.result.now c.table.result.now compiled c.name.ensures c.table.ensures c.index-compiled.ensures
           _ (λ i. lexicon_of c.name.result.now c.table.result.now (c.handlers.ensures i) inputs.scripts.objects (c.as_slice.ensures.value i)));
       many = many_more c.loop-number.sheets.items _ _ n c.in_ok-push.ensures.items c.loop-number.invariant.many;
     }

@@ -4,16 +4,16 @@ use Rattle.jm_events.specs.Names.{number_of}
 use Rattle.jm_script.specs.Catalogs.{spec_names}
 use Rattle.jm_inputs.specs.Reading.{named_entry}
 use Rattle.jm_inputs.proofs.OneReadingLemmas.{same_err}
-use Rattle.jm_inputs.proofs.LibraryLemmas.{its_catalog, listed_more, added, new_if_ok, twice_if_err}
-use Rattle.jm_inputs.proofs.library.Library.add.Goals as goal
+use Rattle.jm_inputs.proofs.SpecSetLemmas.{its_catalog, listed_more, added, new_if_ok, twice_if_err}
+use Rattle.jm_inputs.proofs.spec_set.SpecSet.add.Goals as goal
 
 pub returns-clause-listed : goal.returns-clause-listed
 returns-clause-listed c =
-    listed_more c.args.self.now (named_entry c.args.name.now c.args.table) c.args.loaded c.requires.catalogued _ _ c.in_ok-push.ensures.items c.in_ok-add.ensures.ok
+    listed_more c.args.self.now (named_entry c.args.name.now c.args.table) c.args.compiled c.requires.catalogued _ _ c.in_ok-push.ensures.items c.in_ok-add.ensures.ok
 
 pub returns-clause-catalogued : goal.returns-clause-catalogued
 returns-clause-catalogued c =
-    added c.args.self.now _ (named_entry c.args.name.now c.args.table) c.args.loaded c.requires.catalogued c.in_ok-push.ensures.items c.in_ok-add.ensures.ok c.requires.whole
+    added c.args.self.now _ (named_entry c.args.name.now c.args.table) c.args.compiled c.requires.catalogued c.in_ok-push.ensures.items c.in_ok-add.ensures.ok c.requires.whole
 
 pub returns-clause-new_name : goal.returns-clause-new_name
 returns-clause-new_name c =

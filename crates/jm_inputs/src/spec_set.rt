@@ -9,11 +9,11 @@ ghost use Rattle.jm_inputs.specs.Sources.{FileContents, Named};
 ghost use Rattle.jm_inputs.specs.Specifications.{most_bytes};
 ghost use Rattle.jm_inputs.specs.Scripts.{catalog_of};
 ghost use Rattle.jm_inputs.specs.Inputs.{asks_families, grammar_fault, IsRefusal};
-ghost use Rattle.jm_inputs.specs.Reading.{IsWhole, named_entry, listing, listed_in, specs_in, IsCatalogued, HasNext, HasNextFrom, IsLibraryOf};
+ghost use Rattle.jm_inputs.specs.Reading.{IsWhole, named_entry, listing, listed_in, specs_in, IsCatalogued, HasNext, HasNextFrom, IsSpecSetOf};
 ghost use Rattle.jm_inputs.specs.Causes.{CountsFailedReads, IsNoSpec, IsNoSpecIn, StopsSpecs};
 
 use crate::files::load;
-use crate::specification::{Loaded, Reading, Titles, read_specification};
+use crate::specification::{CompiledSpec, NamedSpec, SpecHeader, read_specification};
 use crate::status::{MOST_BYTES, Status};
 use jm_events::EventTable;
 use jm_model::{SpecError, SpecFault};
@@ -32,30 +32,35 @@ pub enum Purpose {
 
 /// Specifications in order, and the catalog of them.
 #[derive(Drop)]
-pub struct Library {
-    pub specs: Vec<Loaded>,
+pub struct SpecSet {
+    pub specs: Vec<CompiledSpec>,
     pub catalog: Catalog,
 }
 
-impl Library {
+impl SpecSet {
     /// No specification.
-    pub(crate) fn new(alloc: Global) -> Library
+    pub(crate) fn new(alloc: Global) -> SpecSet
         ensures specs { result.specs.items ≡ [] }
         ensures catalogued { IsCatalogued result }
     {
-        Library {
+        SpecSet {
             specs: Vec::new(alloc),
             catalog: Catalog::new(alloc),
         }
     }
 
     /// Adds a specification. The fault is `DuplicateSpec` where one has its name.
-    fn add(&mut self, name: &str, table: EventTable, loaded: Loaded) -> Result<(), SpecError>
+    fn add(
+        &mut self,
+        name: &str,
+        table: EventTable,
+        compiled: CompiledSpec,
+    ) -> Result<(), SpecError>
         requires bounded { length self.old.specs.items < most_specs }
         requires catalogued { IsCatalogued self.old }
-        requires whole { IsWhole (listing (named_entry name.now table) loaded) }
+        requires whole { IsWhole (listing (named_entry name.now table) compiled) }
         ensures listed { OnOk result (listed_in self.new
-            ≡ listed_in self.old ++ listing (named_entry name.now table) loaded ∷ []) }
+            ≡ listed_in self.old ++ listing (named_entry name.now table) compiled ∷ []) }
         ensures catalogued { OnOk result (IsCatalogued self.new) }
         ensures new_name { OnOk result (number_of (spec_names (catalog_of (specs_in self.old))) name.now ≡ None) }
         ensures fault { (fault : SpecFault) → result ≡ Err (SpecError.Bad fault) →
@@ -63,7 +68,7 @@ impl Library {
             × IsSome (number_of (spec_names (catalog_of (specs_in self.old))) name.now) }
     {
         self.catalog.add(name, table)?;
-        self.specs.push(loaded)?;
+        self.specs.push(compiled)?;
         Ok(())
     }
 }
@@ -76,10 +81,10 @@ pub fn read_specifications<F: Folder>(
     before: u32,
     purpose: Purpose,
     files: &mut F,
-) -> Result<Library, Status>
+) -> Result<SpecSet, Status>
     requires bounded { length names.now ≤ most_specs }
     requires before { before ≤ 1 }
-    ensures read { IfOk result (IsLibraryOf (F.holds files.old) (asks_families purpose)
+    ensures read { IfOk result (IsSpecSetOf (F.holds files.old) (asks_families purpose)
         (named (map string_bytes names.now))) }
     ensures err { IfErr result (StopsSpecs (F.holds files.old) before (asks_families purpose)
         (named (map string_bytes names.now))) }
@@ -87,66 +92,66 @@ pub fn read_specifications<F: Folder>(
     ensures never_falls { F.faults files.old ≤ F.faults files.new }
     ensures unchanged { (other : List ℕ) → F.holds files.new other ≡ F.holds files.old other }
 {
-    let mut library = Library::new(alloc);
+    let mut spec_set = SpecSet::new(alloc);
     for name in names {
-        read_next(alloc, name.as_str(), before, purpose, files, &mut library)?;
+        read_next(alloc, name.as_str(), before, purpose, files, &mut spec_set)?;
     }
-    Ok(library)
+    Ok(spec_set)
 }
 
 /// Reads the specifications that these bytes say, in order.
-pub(crate) fn given_specifications(alloc: Global, files: &[Vec<u8>]) -> Result<Library, Status>
+pub(crate) fn given_specifications(alloc: Global, files: &[Vec<u8>]) -> Result<SpecSet, Status>
     requires { length files.now ≤ most_specs }
     ensures read { (contents : FileContents)
-        → IfOk result (IsLibraryOf contents false (given_files (map (λ file. file.items) files.now))) }
+        → IfOk result (IsSpecSetOf contents false (given_files (map (λ file. file.items) files.now))) }
     ensures err { (contents : FileContents)
         → IfErr result (StopsSpecs contents 0 false (given_files (map (λ file. file.items) files.now))) }
 {
-    let mut library = Library::new(alloc);
+    let mut spec_set = SpecSet::new(alloc);
     for file in files {
-        read_given(alloc, file.as_slice(), &mut library)?;
+        read_given(alloc, file.as_slice(), &mut spec_set)?;
     }
-    Ok(library)
+    Ok(spec_set)
 }
 
-/// Reads the specification that these bytes say, after those of the library, however many they are.
-fn read_given(alloc: Global, bytes: &[u8], library: &mut Library) -> Result<(), Status>
-    requires bounded { length library.old.specs.items < most_specs }
-    requires catalogued { IsCatalogued library.old }
-    ensures read { OnOk result (HasNext false bytes.now library.old library.new) }
-    ensures err { IfErr result (IsNoSpecIn false (specs_in library.old) (length library.old.specs.items) bytes.now) }
+/// Reads the specification that these bytes say, after those of the spec set, however many they are.
+fn read_given(alloc: Global, bytes: &[u8], spec_set: &mut SpecSet) -> Result<(), Status>
+    requires bounded { length spec_set.old.specs.items < most_specs }
+    requires catalogued { IsCatalogued spec_set.old }
+    ensures read { OnOk result (HasNext false bytes.now spec_set.old spec_set.new) }
+    ensures err { IfErr result (IsNoSpecIn false (specs_in spec_set.old) (length spec_set.old.specs.items) bytes.now) }
 {
-    let number = library.specs.len() as u32;
+    let number = spec_set.specs.len() as u32;
     if bytes.len() > MOST_BYTES {
         return Err(too_long(number));
     }
-    read_bytes(alloc, bytes, number, Purpose::Rules, library)
+    read_bytes(alloc, bytes, number, Purpose::Rules, spec_set)
 }
 
-/// Reads the specification of this name, after those of the library, whose files stand after a number of others. After
-/// an error the library is of no use.
+/// Reads the specification of this name, after those of the spec set, whose files stand after a number of others. After
+/// an error the spec set is of no use.
 fn read_next<F: Folder>(
     alloc: Global,
     name: &str,
     before: u32,
     purpose: Purpose,
     files: &mut F,
-    library: &mut Library,
+    spec_set: &mut SpecSet,
 ) -> Result<(), Status>
     requires before { before ≤ 1 }
-    requires bounded { length library.old.specs.items < most_specs }
-    requires catalogued { IsCatalogued library.old }
-    ensures read { OnOk result (HasNextFrom (F.holds files.old) (Named name.now) (asks_families purpose) library.old
-        library.new) }
-    ensures err { IfErr result (IsNoSpec (F.holds files.old) (asks_families purpose) (specs_in library.old) before
-        (length library.old.specs.items) (Named name.now)) }
+    requires bounded { length spec_set.old.specs.items < most_specs }
+    requires catalogued { IsCatalogued spec_set.old }
+    ensures read { OnOk result (HasNextFrom (F.holds files.old) (Named name.now) (asks_families purpose) spec_set.old
+        spec_set.new) }
+    ensures err { IfErr result (IsNoSpec (F.holds files.old) (asks_families purpose) (specs_in spec_set.old) before
+        (length spec_set.old.specs.items) (Named name.now)) }
     ensures read_failed { CountsFailedReads result (F.faults files.old) (F.faults files.new) }
     ensures never_falls { F.faults files.old ≤ F.faults files.new }
     ensures unchanged { (other : List ℕ) → F.holds files.new other ≡ F.holds files.old other }
 {
-    let number = library.specs.len() as u32;
+    let number = spec_set.specs.len() as u32;
     let bytes = load(name, before + number, MOST_BYTES, too_long(number), files)?;
-    read_bytes(alloc, bytes.as_slice(), number, purpose, library)
+    read_bytes(alloc, bytes.as_slice(), number, purpose, spec_set)
 }
 
 /// The end of a command whose specification of this number is too long.
@@ -166,15 +171,15 @@ fn read_bytes(
     bytes: &[u8],
     number: u32,
     purpose: Purpose,
-    library: &mut Library,
+    spec_set: &mut SpecSet,
 ) -> Result<(), Status>
     requires small { length bytes.now ≤ most_bytes }
-    requires bounded { length library.old.specs.items < most_specs }
-    requires catalogued { IsCatalogued library.old }
-    ensures read { OnOk result (HasNext (asks_families purpose) bytes.now library.old library.new) }
-    ensures err { IfErr result (IsNoSpecIn (asks_families purpose) (specs_in library.old) number bytes.now) }
+    requires bounded { length spec_set.old.specs.items < most_specs }
+    requires catalogued { IsCatalogued spec_set.old }
+    ensures read { OnOk result (HasNext (asks_families purpose) bytes.now spec_set.old spec_set.new) }
+    ensures err { IfErr result (IsNoSpecIn (asks_families purpose) (specs_in spec_set.old) number bytes.now) }
 {
-    match admit(alloc, bytes, purpose, library) {
+    match admit(alloc, bytes, purpose, spec_set) {
         Ok(()) => Ok(()),
         Err(SpecError::Bad(fault)) => {
             Err(Status::BadSpec {
@@ -186,37 +191,37 @@ fn read_bytes(
     }
 }
 
-/// Reads the specification that these bytes say, after those of the library.
+/// Reads the specification that these bytes say, after those of the spec set.
 fn admit(
     alloc: Global,
     bytes: &[u8],
     purpose: Purpose,
-    library: &mut Library,
+    spec_set: &mut SpecSet,
 ) -> Result<(), SpecError>
     requires small { length bytes.now ≤ most_bytes }
-    requires bounded { length library.old.specs.items < most_specs }
-    requires catalogued { IsCatalogued library.old }
-    ensures read { OnOk result (HasNext (asks_families purpose) bytes.now library.old library.new) }
+    requires bounded { length spec_set.old.specs.items < most_specs }
+    requires catalogued { IsCatalogued spec_set.old }
+    ensures read { OnOk result (HasNext (asks_families purpose) bytes.now spec_set.old spec_set.new) }
     ensures fault { (fault : SpecFault) → result ≡ Err (SpecError.Bad fault)
-        → IsRefusal (asks_families purpose) (specs_in library.old) bytes.now fault }
+        → IsRefusal (asks_families purpose) (specs_in spec_set.old) bytes.now fault }
 {
     let reading = read_specification(alloc, bytes)?;
-    let Reading {
+    let NamedSpec {
         name,
         table,
-        loaded,
+        compiled,
     } = reading;
-    check_families(purpose, &loaded.titles)?;
-    library.add(name, table, loaded)
+    check_families(purpose, &compiled.header)?;
+    spec_set.add(name, table, compiled)
 }
 
 /// Refuses the first grammar where specifications are read for families: it has none.
-fn check_families(purpose: Purpose, titles: &Titles) -> Result<(), SpecError>
-    ensures { Checks result (grammar_fault (asks_families purpose) titles.now.grammar_line) }
+fn check_families(purpose: Purpose, header: &SpecHeader) -> Result<(), SpecError>
+    ensures { Checks result (grammar_fault (asks_families purpose) header.now.grammar_line) }
 {
     match purpose {
         Purpose::Rules => Ok(()),
-        Purpose::Families => match titles.grammar_line {
+        Purpose::Families => match header.grammar_line {
             Some(line) => Err(SpecError::Bad(SpecFault::UnsupportedLogic { line })),
             None => Ok(()),
         },
