@@ -22,7 +22,9 @@ use Rattle.jm_turn.specs.declared.kept.Kept as Kept
 use Rattle.jm_sync.specs.contracts.board.Board as Board
 use Rattle.jm_sync.specs.contracts.shelves.Shelves as Shelves
 use Rattle.jm_sync.specs.declared.shelves.Posted as Posted
+use Rattle.jm_script.specs.contracts.queue.LineQueue as LineQueue
 use Rattle.jm_runner.specs.contracts.parcel.Parcel as Parcel
+use Rattle.jm_runner.specs.contracts.worker.Hand as Hand
 use Rattle.jm_runner.specs.contracts.notices.Notices as Notices
 use Rattle.jm_runner.specs.declared.parcel.Naming as Naming
 use mir.Syntax.{w8}
@@ -61,6 +63,14 @@ module _ (M S D : RattleType) (m : Monitor.Ghosts M.Denot S.Denot D.Denot) where
       let lock = lock_row (Watched.the_row M S D m) Entry.the_row (Fixed.the_row D) (kept.ghosts M S D m kept.no_dict kept.no_dict kept.no_dict) (watched_row M S D m sm ss) in
       let masks : IsSync (Array (UInt w8) 32) = search sendable in
       record { shared = λ d b o κ x. (((lock.shared x.0.lock b _ κ, (masks.shared x.0.masks b _ κ, tt)), (λ q. tt)), tt) }
+
+queue_row : IsSend LineQueue.the_row
+queue_row = search (crosses, maps, sendable) depth 100 fits 20000
+
+module _ (M S D : RattleType) (m : Monitor.Ghosts M.Denot S.Denot D.Denot) where
+  -- a hand has seats and a queue
+  pub hand_row : IsSend M → IsSend S → IsSend (Hand.the_row M S D m)
+  hand_row sm ss = search (queue_row, watched_row, seat.the_send, crosses, maps, sendable) depth 100 fits 20000
 
 module _ (T W : RattleType) (t : Posted.Ghosts T.Denot) (w : Posted.Ghosts W.Denot) where
   shelves_row : IsSend T → IsSend W → IsSend (Shelves.the_row T W t w)

@@ -1,11 +1,9 @@
 -- Lines whose numbers rise.
-use Rattle.std.proofs.Common.{◌≡◌, ℕ, zero, suc, ◌+◌, ◌<◌, ◌≤◌, List, [], ◌∷◌, ◌++◌, length, get_or, take, drop, Option, Some, None, option_map, slice_get, refl, sym, ap, ◌∙◌, subst, arith}
+use Rattle.std.proofs.Common.{◌≡◌, ℕ, zero, suc, ◌+◌, ◌<◌, ◌≤◌, List, [], ◌∷◌, ◌++◌, length, get_or, take, Some, slice_get, refl, ap, ◌∙◌, subst, arith}
 use Rattle.std.specs.Prelude.{All}
 use Rattle.std.proofs.lemmas.Option.{none-some, same_Some, slice_get_read}
 use Rattle.std.proofs.lemmas.List.{map-append}
-use Rattle.std.proofs.lemmas.List.Elements.{All-nil, All-cons, All-weaker, All-push, All-same}
-use Rattle.jm_script.specs.declared.script.ScriptLine.{ScriptLine}
-use Rattle.jm_script.specs.Meanings.{RisesFrom}
+use Rattle.std.proofs.lemmas.List.Elements.{All-weaker, All-push, All-same}
 use Rattle.jm_sync.specs.declared.line.SyncLine.{SyncLine}
 use Rattle.jm_sync.specs.Cuts.{RisesFrom as SyncRisesFrom}
 use Rattle.jm_sync.specs.declared.line.Cut.{Cut}
@@ -14,33 +12,6 @@ use Rattle.jm_sync.proofs.CheckLemmas.{script_at}
 use Rattle.jm_turn.proofs.Elements.{place_from_all}
 use Rattle.jm_runner.specs.Notes.{HaveNamesBelow}
 use Rattle.jm_runner.proofs.PlaceLemmas.{take_place}
-
--- ---- step lines
-all_from : (n : ℕ) (lines : List ScriptLine) → RisesFrom n lines → All (λ x. n ≤ x.line) lines
-all_from n [] rising = All-nil (λ (x : ScriptLine). n ≤ x.line)
-all_from n (l ∷ lines) rising =
-    let first : n ≤ l.line = rising.0 in
-    All-cons (λ (x : ScriptLine). n ≤ x.line) l lines first (All-weaker (λ (x : ScriptLine). l.line + 1 ≤ x.line) (λ (x : ScriptLine). n ≤ x.line) (λ x low. omega arith) lines (all_from (l.line + 1) lines rising.1))
-
--- the line whose number is known
-pub numbered_line : (lines : List ScriptLine) (place n : ℕ) → option_map (λ l. l.line) (slice_get lines place) ≡ Some n → (l : ScriptLine) × (slice_get lines place ≡ Some l) × (l.line ≡ n)
-numbered_line lines place n e = by_case (slice_get lines place) refl e
-  where
-    by_case : (o : Option ScriptLine) → slice_get lines place ≡ o → option_map (λ l. l.line) o ≡ Some n → (l : ScriptLine) × (slice_get lines place ≡ Some l) × (l.line ≡ n)
-    by_case None at e = cc
-    by_case (Some l) at e = (l, at, same_Some l.line n e)
-
--- a line that isn't above a number, and all lines from it on
-pub from_place : (n number : ℕ) (lines : List ScriptLine) (place : ℕ) (l : ScriptLine) → RisesFrom n lines → slice_get lines place ≡ Some l → number ≤ l.line → All (λ x. number ≤ x.line) (drop place lines)
-from_place n number [] place l rising at low = absurd (none-some l at)
-from_place n number (x ∷ lines) zero l rising at low =
-    let first : number ≤ x.line = subst (λ (y : ScriptLine). number ≤ y.line) (sym (same_Some x l at)) low in
-    All-cons (λ (y : ScriptLine). number ≤ y.line) x lines first (All-weaker (λ (y : ScriptLine). x.line + 1 ≤ y.line) (λ (y : ScriptLine). number ≤ y.line) (λ y later. omega arith) lines (all_from (x.line + 1) lines rising.1))
-from_place n number (x ∷ lines) (suc place) l rising at low = from_place (x.line + 1) number lines place l rising.1 at low
-
--- one line more that is above a number
-pub above_more : (number : ℕ) (lines : List ScriptLine) (place : ℕ) (l : ScriptLine) → slice_get lines place ≡ Some l → l.line < number → All (λ x. x.line < number) (take place lines) → All (λ x. x.line < number) (take (place + 1) lines)
-above_more number lines place l at low above = All-same (λ (x : ScriptLine). x.line < number) (take (place + 1) lines) (take place lines ++ l ∷ []) (take_place lines place l at) (All-push (λ (x : ScriptLine). x.line < number) (take place lines) l above low)
 
 -- ---- lines that ask for order
 sync_from : (n : ℕ) (lines : List SyncLine) (place : ℕ) (l : SyncLine) → SyncRisesFrom n lines → slice_get lines place ≡ Some l → n ≤ l.line

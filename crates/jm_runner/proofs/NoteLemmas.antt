@@ -1,12 +1,12 @@
 -- What seats know of order after a step, after a note, and after a line that asks for order.
-use Rattle.std.proofs.Common.{◌≡◌, ◌≢◌, ℕ, ◌+◌, ◌<◌, ◌≤◌, Bool, true, false, cond, ltb, List, [], ◌∷◌, ◌++◌, map, filter, length, take, drop, Some, slice_get, slice_set, refl, sym, ap, ◌∙◌, subst, arith, inl, inr, ⊎_elim}
+use Rattle.std.proofs.Common.{◌≡◌, ◌≢◌, ℕ, ◌+◌, ◌<◌, ◌≤◌, Bool, true, false, cond, ltb, List, [], ◌∷◌, ◌++◌, map, filter, length, take, Option, None, Some, slice_get, slice_set, refl, sym, ap, ◌∙◌, subst, arith, append_assoc, append-nil, inl, inr, ⊎_elim}
 use Rattle.std.specs.Prelude.{All, Contains}
 use mathlib.Core.List.{IsPrefix}
 use borrow.Author.Tests.{ltb-true}
 use Rattle.std.proofs.lemmas.Bool.Decides.{nat_tests}
 use Rattle.std.proofs.lemmas.Option.{same_Some, slice_get_within}
-use Rattle.std.proofs.lemmas.List.{length-map, length-set, take-append-drop, map-append}
-use Rattle.std.proofs.lemmas.List.Elements.{All-map, All-filter, All-same, All-weaker, Contains-push_cases, filter-append}
+use Rattle.std.proofs.lemmas.List.{length-map, length-set, map-append, take_all}
+use Rattle.std.proofs.lemmas.List.Elements.{All-nil, All-head, All-tail, All-append, All-map, All-filter, All-same, All-weaker, Contains-push_cases, filter-append}
 use Rattle.jm_model.specs.Meanings.{Meaning}
 use Rattle.jm_model.specs.declared.step.Step.{Step}
 use Rattle.jm_model.specs.declared.step.Outcome.TheVariants.{NoMemory}
@@ -18,6 +18,7 @@ use Rattle.jm_turn.specs.Lists.{entries_by, longer_of}
 use Rattle.jm_turn.specs.Seats.{LockModel, SeatModel, NoteModel, HaveOneHistory, note_of, own_entries}
 use Rattle.jm_turn.proofs.Prefixes.{prefix_self, prefix_shorter}
 use Rattle.jm_script.specs.declared.script.ScriptLine.{ScriptLine}
+use Rattle.jm_script.specs.Blocks.{StandsAbove, StandsFrom}
 use Rattle.jm_script.specs.Projections.{script_of, line_of}
 use Rattle.jm_sync.specs.declared.line.SyncKind.{SyncKind}
 use Rattle.jm_sync.specs.declared.line.SyncKind.TheVariants.{Post, Wait}
@@ -26,11 +27,21 @@ use Rattle.jm_dispatch.specs.declared.acts.Answer.{Answer}
 use Rattle.jm_dispatch.specs.Steps.{Stepped, caller_of, entry_of}
 use Rattle.jm_runner.specs.Orders.{post_at, wait_at, HasAbove, AreBehind, KnowsOrder, KeepsOrder, KeepOrder}
 use Rattle.jm_runner.specs.Notes.{KnowsAbove, KnowAbove, AreNotesUnder, KnowPosts, SeesMore, SeeMore, Hears, HearBelow, PassesLine, TakesPart}
-use Rattle.jm_runner.specs.Work.{HasDone, HaveDone, AreSeatsOf}
+use Rattle.jm_runner.specs.Work.{HasDone, HaveDone, DoLines, AreSeatsOf}
 use Rattle.jm_runner.proofs.PlaceLemmas.{contains_at, get_there, map_get, set_cases, set_other, take_place}
 use Rattle.jm_runner.proofs.OrderLemmas.{above_later, behind_later, behind_none, above_after_turn, behind_after_turn, has_done_above, of_own, of_lines}
 use Rattle.jm_runner.proofs.LineLemmas.{sync_rises}
 use Rattle.jm_runner.proofs.PostLemmas.{posted_once}
+
+-- what holds of all lines holds of those that are left
+pub of_left : {A : Type 0} (P : A → Type 0) (xs ys : List A) → All P (xs ++ ys) → All P ys
+of_left P [] ys all = all
+of_left P (x ∷ xs) ys all = of_left P xs ys (All-tail P x (xs ++ ys) all)
+
+-- no line stands where none can
+none_stands : (lines : List ScriptLine) → All (StandsFrom None) lines → lines ≡ []
+none_stands [] all = refl
+none_stands (l ∷ lines) all = absurd (All-head (λ (x : ScriptLine). StandsFrom None x) l lines all)
 
 -- a line, but of this kind
 abbrev of_kind : SyncLine → SyncKind → SyncLine
@@ -234,10 +245,10 @@ module _ {F : Type 0} where
         (Contains-push_cases (take i lines) line (wait_at q name) (subst (λ (ls : List SyncLine). Contains ls (wait_at q name)) (take_place lines i line there) waits))
 
     -- before a post the seats have seen all that the script has above it
-    pub post_known : (named watches : List (LockModel F)) (caller : ℕ) (script : List ScriptLine) (lines : List SyncLine) (i : ℕ) (line : SyncLine) (n : ℕ) (seats : List (SeatModel Entry F))
-        → TakesPart scripts cuts named caller script lines watches → slice_get lines i ≡ Some line → HaveDone caller (take n script) watches seats → All (λ l. line.line ≤ l.line) (drop n script) → line.kind ≡ Post
+    pub post_known : (named watches : List (LockModel F)) (caller : ℕ) (script did rest : List ScriptLine) (lines : List SyncLine) (i : ℕ) (line : SyncLine) (seats : List (SeatModel Entry F))
+        → TakesPart scripts cuts named caller script lines watches → slice_get lines i ≡ Some line → script ≡ did ++ rest → HaveDone caller did watches seats → All (λ l. line.line ≤ l.line) rest → line.kind ≡ Post
         → KnowAbove scripts cuts line.name seats
-    post_known named watches caller script lines i line n seats part there done below_all posts_it s seat at k p which posts sat pat posted =
+    post_known named watches caller script did rest lines i line seats part there parted done below_all posts_it s seat at k p which posts sat pat posted =
         let within : s < length seats = slice_get_within seats s seat at in
         let watch = get_there watches s (omega (arith, done.count)) in
         let h = done.each s watch.0 seat watch.1 at in
@@ -245,27 +256,72 @@ module _ {F : Type 0} where
         let there_too : Contains lines (post_at line.line line.name) = subst (λ (l : SyncLine). Contains lines l) mine (contains_at lines i line there) in
         let one = posted_once cuts k caller p line.line line.name posts lines part.once pat part.lines_there posted there_too in
         let which_is : script ≡ which = same_Some script which (sym part.script_there ∙ ap (λ c. slice_get scripts c) (sym one.0) ∙ sat) in
-        let above = projection_of (script_of (take n script)) s in
-        let below = projection_of (script_of (drop n script)) s in
-        let split : above ++ below ≡ projection_of (script_of which) s = sym (projection-append (take n script) (drop n script) s) ∙ ap (λ l. projection_of (script_of l) s) (take-append-drop n script ∙ which_is) in
+        let above = projection_of (script_of did) s in
+        let below = projection_of (script_of rest) s in
+        let split : above ++ below ≡ projection_of (script_of which) s = sym (projection-append did rest s) ∙ ap (λ l. projection_of (script_of l) s) (sym parted ∙ which_is) in
         let own : map line_and_step (entries_by caller_of k seat.seen) ≡ above = ap (λ c. map line_and_step (entries_by caller_of c seat.seen)) (one.0 ∙ sym h.number) ∙ h.entries in
-        let later = projected (λ l. line.line ≤ l) (drop n script) s below_all in
+        let later = projected (λ l. line.line ≤ l) rest s below_all in
         subst (λ (l : List (ℕ × Step)). HasAbove k p l seat.seen) split
         (subst (λ (m : ℕ). HasAbove k m (above ++ below) seat.seen) (sym one.1) (has_done_above k line.line above below seat.seen own later))
 
-    -- what holds after a line that was passed, by what held before
-    module _ (named watches : List (LockModel F)) (caller : ℕ) (script : List ScriptLine) (lines : List SyncLine) (part : TakesPart scripts cuts named caller script lines watches) (i n : ℕ) (line : SyncLine) (there : slice_get lines i ≡ Some line)
-        (before middle after : List (SeatModel Entry F)) (earlier : ℕ) (did : HaveDone caller (take earlier script) watches before) (done : HaveDone caller (take n script) watches middle) (keep : KeepOrder before middle) where
-      middle_size : length middle ≡ length before
-      middle_size = done.count ∙ sym did.count
+    -- What a caller has done of its script, of which these lines are left, where it has passed as many of the lines that
+    -- ask for order as this.
+    pub record HasDoneSoFar (caller : ℕ) (script left : List ScriptLine) (lines : List SyncLine) (watches : List (LockModel F)) (passed : ℕ) (seats : List (SeatModel Entry F)) : Type 0 where
+      pub did : List ScriptLine
+      pub parted : script ≡ did ++ left
+      pub done : HaveDone caller did watches seats
+      pub above : (m : ℕ) (line : SyncLine) → passed ≤ m → slice_get lines m ≡ Some line → All (λ l. l.line < line.line) did
+      pub know : KnowPosts scripts cuts (take passed lines) seats
 
-      pub done_behind : PassesLine scripts cuts line.kind line.name middle after → HaveDone caller (take n script) watches after
-      done_behind passes = see_done caller (take n script) watches middle after passes.more done
+    pub nothing_done : (caller : ℕ) (script : List ScriptLine) (lines : List SyncLine) (watches : List (LockModel F)) (seats : List (SeatModel Entry F)) → HaveDone caller [] watches seats → HasDoneSoFar caller script script lines watches 0 seats
+    nothing_done caller script lines watches seats idle = record {
+      did = [];
+      parted = refl;
+      done = idle;
+      above = λ m line later at. All-nil (λ (l : ScriptLine). l.line < line.line);
+      know = know_none seats;
+    }
 
-      pub known_behind : PassesLine scripts cuts line.kind line.name middle after → All (λ l. l.line < line.line) (take n script) → KnowPosts scripts cuts (take i lines) before → KnowPosts scripts cuts (take (i + 1) lines) after
-      known_behind passes above know = passed_line caller (take n script) watches lines i line middle after there done above passes (know_kept (take i lines) before middle middle_size keep know)
+    -- what holds after lines were done, and after a line that was passed behind them
+    module _ (named watches : List (LockModel F)) (caller : ℕ) (script : List ScriptLine) (lines : List SyncLine) (part : TakesPart scripts cuts named caller script lines watches) (queue left : List ScriptLine) (passed : ℕ)
+        (before middle : List (SeatModel Entry F)) (earlier : HasDoneSoFar caller script queue lines watches passed before) (above : Option ℕ) (does : DoLines watches above queue left before middle) where
+      abbrev did_now : List ScriptLine
+      did_now = earlier.did ++ does.lines
 
-      pub above_next : All (λ l. l.line < line.line) (take n script) → (m : ℕ) (next : SyncLine) → i + 1 ≤ m → slice_get lines m ≡ Some next → All (λ l. l.line < next.line) (take n script)
-      above_next above m next later at =
-          let less : line.line < next.line = sync_rises 1 lines i m line next part.rising there at (omega arith) in
-          All-weaker (λ (l : ScriptLine). l.line < line.line) (λ (l : ScriptLine). l.line < next.line) (λ l low. omega arith) (take n script) above
+      parted_now : script ≡ did_now ++ left
+      parted_now = earlier.parted ∙ ap (λ l. earlier.did ++ l) does.taken ∙ sym (append_assoc earlier.did does.lines left)
+
+      pub done_now : HaveDone caller did_now watches middle
+      done_now = does.done caller earlier.did earlier.done
+
+      know_now : KnowPosts scripts cuts (take passed lines) middle
+      know_now = know_kept (take passed lines) before middle (done_now.count ∙ sym earlier.done.count) does.keep earlier.know
+
+      module _ (line : SyncLine) (there : slice_get lines passed ≡ Some line) (is : above ≡ Some line.line) where
+        above_line : All (λ l. l.line < line.line) did_now
+        above_line =
+            let first = earlier.above passed line (omega arith) there in
+            All-append (λ (l : ScriptLine). l.line < line.line) earlier.did does.lines first (subst (λ (o : Option ℕ). All (StandsAbove o) does.lines) is does.stand)
+
+        pub known_before : All (StandsFrom above) left → line.kind ≡ Post → KnowAbove scripts cuts line.name middle
+        known_before below = post_known named watches caller script did_now left lines passed line middle part there parted_now done_now (subst (λ (o : Option ℕ). All (StandsFrom o) left) is below)
+
+        pub passed_now : (after : List (SeatModel Entry F)) → PassesLine scripts cuts line.kind line.name middle after → HasDoneSoFar caller script left lines watches (passed + 1) after
+        passed_now after passes = record {
+          did = did_now;
+          parted = parted_now;
+          done = see_done caller did_now watches middle after passes.more done_now;
+          above = λ m next later at.
+              let less : line.line < next.line = sync_rises 1 lines passed m line next part.rising there at (omega arith) in
+              All-weaker (λ (l : ScriptLine). l.line < line.line) (λ (l : ScriptLine). l.line < next.line) (λ l low. omega arith) did_now above_line;
+          know = passed_line caller did_now watches lines passed line middle after there done_now above_line passes know_now;
+        }
+
+      -- where no line is left, the whole script is done
+      pub all_done : above ≡ None → All (StandsFrom above) left → length lines ≤ passed → HaveDone caller script watches middle × KnowPosts scripts cuts lines middle
+      all_done is below most =
+          let none : left ≡ [] = none_stands left (subst (λ (o : Option ℕ). All (StandsFrom o) left) is below) in
+          let whole : did_now ≡ script = sym (append-nil did_now) ∙ ap (λ l. did_now ++ l) (sym none) ∙ sym parted_now in (
+            subst (λ (l : List ScriptLine). HaveDone caller l watches middle) whole done_now,
+            subst (λ (l : List SyncLine). KnowPosts scripts cuts l middle) (take_all passed lines most) know_now,
+          )

@@ -62,6 +62,18 @@ slot_met {F} {T} {E} g f R before after hands values k hand value says changes m
     let back = subst (λ (r : Result T E). IfOk r (λ b. IfOk call.argument.now (λ x. R x b))) is said in
     subst (λ (r : Result T E). IfOk r (λ x. R x value)) was back
 
+-- what stands at a place of a list that was mapped
+pub moved : {A B : Type 0} (f : A → B) (xs : List A) (ys : List B) (k : ℕ) (x : A) → map f xs ≡ ys → slice_get xs k ≡ Some x → slice_get ys k ≡ Some (f x)
+moved f xs ys k x same at = ap (λ l. slice_get l k) (sym same) ∙ slice_get-map f xs k ∙ ap (λ o. option_map f o) at
+
+-- what holds of the elements at each place of two lists holds of what they are mapped to
+pub both_mapped : {A B : Type 0} (f : A → B) (R : B → B → Type 0) (xs ys : List A) (us vs : List B) → map f xs ≡ us → vs ≡ map f ys → ((k : ℕ) (x y : A) → slice_get xs k ≡ Some x → slice_get ys k ≡ Some y → R (f x) (f y))
+    → (k : ℕ) (u v : B) → slice_get us k ≡ Some u → slice_get vs k ≡ Some v → R u v
+both_mapped f R xs ys us vs first second related k u v uat vat =
+    let x = map_get f xs k u (ap (λ l. slice_get l k) first ∙ uat) in
+    let y = map_get f ys k v (ap (λ l. slice_get l k) (sym second) ∙ vat) in
+    subst (λ (b : _). R b v) (sym x.2) (subst (λ (b : _). R (f x.0) b) (sym y.2) (related k x.0 y.0 x.1 y.1))
+
 -- the front of two lists, as long as the first, is the first
 pub front_only : {A : Type 0} (n : ℕ) (xs ys : List A) → n ≡ length xs → take n (xs ++ ys) ≡ xs
 front_only n xs ys e = rw e (front_of xs ys)
@@ -254,11 +266,11 @@ module _ {F : Type 0} where
       }
 
   -- a caller's part in a run that is named
-  module _ (js given : List (List ScriptLine)) (jc asked : List (List SyncLine)) (jw watches : List (LockModel F)) (names : ℕ) (named : IsNamed js jc jw given asked watches names) (n : ℕ) (mine : List ScriptLine) (lines : List SyncLine)
-      (mat : slice_get given n ≡ Some mine) (lat : slice_get asked n ≡ Some lines) where
+  module _ (js : List (List ScriptLine)) (jc asked : List (List SyncLine)) (jw watches : List (LockModel F)) (names : ℕ) (named : IsNamed js jc jw asked watches names) (n : ℕ) (mine : List ScriptLine) (lines : List SyncLine)
+      (mat : slice_get js n ≡ Some mine) (lat : slice_get asked n ≡ Some lines) where
     pub part_of : TakesPart js jc jw n mine lines watches
     part_of = record {
-      script_there = ap (λ l. slice_get l n) named.scripts_are ∙ mat;
+      script_there = mat;
       lines_there = ap (λ l. slice_get l n) named.cuts_are ∙ lat;
       same = named.watches_are;
       once = subst (λ (l : List (List SyncLine)). ArePostedOnce l) (sym named.cuts_are) named.once;
@@ -269,14 +281,13 @@ module _ {F : Type 0} where
     names_below = place_from_all (λ (l : List SyncLine). All (λ (x : SyncLine). x.name < names) l) asked n lines named.below lat
 
     pub worked_named : (before after : List (SeatModel Entry F)) (seat : SeatModel Entry F) → 1 ≤ length watches → slice_get before 0 ≡ Some seat → n ≡ seat.number → HaveDone n mine watches after → KnowPosts js jc lines after
-        → HasWorked watches given asked before after
+        → HasWorked watches js asked before after
     worked_named before after seat some first number done know =
-        has_worked n mine watches given asked before after seat some first number mat done
+        has_worked n mine watches js asked before after seat some first number mat done
         (λ theirs tat.
         let same : lines ≡ theirs = same_Some lines theirs (sym lat ∙ tat) in
-        subst (λ (l : List SyncLine). KnowPosts given asked l after) same
-        (subst (λ (l : List (List ScriptLine)). KnowPosts l asked lines after) named.scripts_are
-        (subst (λ (l : List (List SyncLine)). KnowPosts js l lines after) named.cuts_are know)))
+        subst (λ (l : List SyncLine). KnowPosts js asked l after) same
+        (subst (λ (l : List (List SyncLine)). KnowPosts js l lines after) named.cuts_are know))
 
 module _ {D R V : Type 0} (meaning : D → Meaning) (scripts : List (List ScriptLine)) (running : List R) (watch_of : R → LockModel (Fixed D)) (seats_of : R → V) (items : V → List (SeatModel Entry (Fixed D)))
     (watches : List (LockModel (Fixed D))) (rows : List V) (watches_are : watches ≡ map watch_of running) (rows_are : rows ≡ map seats_of running)
@@ -310,10 +321,20 @@ module _ {D R V : Type 0} (meaning : D → Meaning) (scripts : List (List Script
     pub idle_hand : (k : ℕ) (v : V) → slice_get hands k ≡ Some v → HaveDone k [] watches (items v)
     idle_hand k v at = idle_column watches (map items rows) (map items hands) k (items v) sizes fresh hands_are (slice_get-map items hands k ∙ ap (λ o. option_map items o) at)
 
-    pub can_work : 1 ≤ length watches → length watches ≤ 16 → length hands ≡ length scripts → All (λ v. CanWork meaning watches scripts (items v)) hands
-    can_work some few count = all_from_places (λ v. CanWork meaning watches scripts (items v)) hands (λ k v at.
-        let within : k < length hands = slice_get_within hands k v at in
-        record { some = some; few = few; fits = all_fit; caller = k; has_script = omega arith; idle = idle_hand k v at })
+    -- a hand has the seats of a caller, and its script
+    pub can_work : {H : Type 0} (all : List H) (seats : H → V) (lines : H → List ScriptLine) → map seats all ≡ hands → map lines all ≡ scripts → 1 ≤ length watches → length watches ≤ 16
+        → All (λ h. CanWork meaning watches scripts (items (seats h)) (lines h)) all
+    can_work all seats lines seats_are lines_are some few = all_from_places (λ h. CanWork meaning watches scripts (items (seats h)) (lines h)) all (λ k h at.
+        let column = moved seats all hands k h seats_are at in
+        let script = moved lines all scripts k h lines_are at in
+        record {
+          some = some;
+          few = few;
+          fits = place_from_all (λ (x : List ScriptLine). All (λ line. FitsWatches meaning watches line) x) scripts k (lines h) all_fit script;
+          caller = k;
+          script = script;
+          idle = idle_hand k (seats h) column;
+        })
 
     module _ (cuts : List (List SyncLine)) (back : List V) (hand_count : length hands ≡ length scripts) (back_count : length back ≡ length hands)
         (worked : (k : ℕ) (before after : V) → slice_get hands k ≡ Some before → slice_get back k ≡ Some after → HasWorked watches scripts cuts (items before) (items after)) where

@@ -58,18 +58,16 @@ promises_met {T} {E} {P} g before_of R n handles results hands values k before a
     subst (λ b. R b after) (sym from.2) (subst (λ (h : PromisedHandle (Result T E) P). R (before_of h.promise) after) handle_is told)
 
 -- what was done in a run was done in the run that its naming names
-pub named_worked : {F : Type 0} (js given : List (List ScriptLine)) (jc asked : List (List SyncLine)) (jw watches : List (LockModel F)) (names : ℕ) (was before after : List (SeatModel Entry F)) → IsNamed js jc jw given asked watches names → was ≡ before
-    → HasWorked watches given asked before after → HasWorked jw js jc was after
-named_worked js given jc asked jw watches names was before after named same worked =
+pub named_worked : {F : Type 0} (js : List (List ScriptLine)) (jc asked : List (List SyncLine)) (jw watches : List (LockModel F)) (names : ℕ) (was before after : List (SeatModel Entry F)) → IsNamed js jc jw asked watches names → was ≡ before
+    → HasWorked watches js asked before after → HasWorked jw js jc was after
+named_worked js jc asked jw watches names was before after named same worked =
     subst (λ b. HasWorked jw js jc b after) (sym same)
     (subst (λ w. HasWorked w js jc before after) (sym named.watches_are)
-    (subst (λ s. HasWorked watches s jc before after) (sym named.scripts_are)
-    (subst (λ c. HasWorked watches given c before after) (sym named.cuts_are) worked)))
+    (subst (λ c. HasWorked watches js c before after) (sym named.cuts_are) worked))
 
 -- and the other way round
-pub worked_named_back : {F : Type 0} (js given : List (List ScriptLine)) (jc asked : List (List SyncLine)) (jw watches : List (LockModel F)) (names : ℕ) (before after : List (SeatModel Entry F)) → IsNamed js jc jw given asked watches names
-    → HasWorked jw js jc before after → HasWorked watches given asked before after
-worked_named_back js given jc asked jw watches names before after named worked =
-    subst (λ w. HasWorked w given asked before after) named.watches_are
-    (subst (λ s. HasWorked jw s asked before after) named.scripts_are
-    (subst (λ c. HasWorked jw js c before after) named.cuts_are worked))
+pub worked_named_back : {F : Type 0} (js : List (List ScriptLine)) (jc asked : List (List SyncLine)) (jw watches : List (LockModel F)) (names : ℕ) (before after : List (SeatModel Entry F)) → IsNamed js jc jw asked watches names
+    → HasWorked jw js jc before after → HasWorked watches js asked before after
+worked_named_back js jc asked jw watches names before after named worked =
+    subst (λ w. HasWorked w js asked before after) named.watches_are
+    (subst (λ c. HasWorked jw js c before after) named.cuts_are worked)

@@ -1,9 +1,9 @@
 -- What a seat has done after one step more, and a caller after one line more.
-use Rattle.std.proofs.Common.{◌≡◌, ◌≢◌, ℕ, ◌+◌, ◌<◌, true, false, List, [], ◌∷◌, ◌++◌, map, length, Some, slice_get, slice_set, refl, sym, ap, ◌∙◌, subst, arith, inl, inr}
-use Rattle.std.specs.Prelude.{IfOk, OnOk, Result, Ok, Err}
+use Rattle.std.proofs.Common.{◌≡◌, ◌≢◌, ℕ, ◌+◌, ◌<◌, true, false, List, [], ◌∷◌, ◌++◌, map, length, Option, Some, slice_get, slice_set, refl, sym, ap, ◌∙◌, subst, arith, append_assoc, inl, inr}
+use Rattle.std.specs.Prelude.{All, IfOk, OnOk, Result, Ok, Err}
 use Rattle.std.proofs.lemmas.Option.{same_Some, slice_get_within}
 use Rattle.std.proofs.lemmas.List.{map-append, length-set}
-use Rattle.std.proofs.lemmas.List.Elements.{All-nil, All-push, All-same}
+use Rattle.std.proofs.lemmas.List.Elements.{All-nil, All-head, All-tail, All-push, All-same}
 use Rattle.jm_model.specs.Meanings.{Meaning}
 use Rattle.jm_model.specs.declared.step.Step.{Step}
 use Rattle.jm_model.specs.declared.step.Outcome.TheVariants.{NoMemory}
@@ -12,13 +12,14 @@ use Rattle.jm_semantics.specs.Scripts.{is_for, projection_of}
 use Rattle.jm_core.specs.Replays.{line_and_step}
 use Rattle.jm_turn.specs.Seats.{LockModel, SeatModel, own_entries, newcomer}
 use Rattle.jm_script.specs.declared.script.ScriptLine.{ScriptLine}
+use Rattle.jm_script.specs.Blocks.{StandsAbove}
 use Rattle.jm_script.specs.Projections.{script_of, spec_of, step_of}
 use Rattle.jm_dispatch.specs.declared.acts.Answer.{Answer}
 use Rattle.jm_dispatch.specs.Steps.{Stepped, caller_of, entry_of}
 use Rattle.jm_runner.specs.Orders.{KeepOrder}
-use Rattle.jm_runner.specs.Work.{HasDone, DoesStep, DoesLine, HaveDone, AreSeatsOf, DoesLineBelow}
+use Rattle.jm_runner.specs.Work.{HasDone, DoesStep, DoesLine, HaveDone, AreSeatsOf, DoesLineBelow, DoLines, HaveWorked}
 use Rattle.jm_runner.proofs.PlaceLemmas.{get_there, set_cases, set_other}
-use Rattle.jm_runner.proofs.NoteLemmas.{projection-append, step_keeps, keeps_self}
+use Rattle.jm_runner.proofs.NoteLemmas.{projection-append, step_keeps, keeps_self, keep_trans}
 
 -- what follows from what was done, follows where it was done
 pub on_ok : {A E : Type 0} {P Q : Type 0} (r : Result A E) → (P → Q) → OnOk r P → OnOk r Q
@@ -136,3 +137,32 @@ module _ {F : Type 0} where
   -- a newcomer has done nothing
   pub newcomer_done : (k s : ℕ) (watch : LockModel F) → HasDone k [] watch (newcomer watch k)
   newcomer_done k s watch = record { lock = refl; number = refl; entries = refl; done = All-nil (λ x. x.outcome ≢ NoMemory) }
+
+-- ---- the lines of a queue
+in_queue : {A : Type 0} (P : A → Type 0) (xs : List A) (x : A) (ys : List A) → All P (xs ++ x ∷ ys) → P x
+in_queue P [] x ys all = All-head P x ys all
+in_queue P (y ∷ xs) x ys all = in_queue P xs x ys (All-tail P y (xs ++ x ∷ ys) all)
+
+module _ {F : Type 0} (watches : List (LockModel F)) (above : Option ℕ) (queue left : List ScriptLine) (line : ScriptLine) (before middle : List (SeatModel Entry F)) (does : DoLines watches above queue (line ∷ left) before middle) where
+  -- what holds of all lines holds of the one that is taken
+  pub of_taken : (P : ScriptLine → Type 0) → All P queue → P line
+  of_taken P all = in_queue P does.lines line left (subst (λ (l : List ScriptLine). All P l) does.taken all)
+
+  module _ (k : ℕ) (worked : HaveWorked k watches before) where
+    done_before : HaveDone k (worked.0 ++ does.lines) watches middle
+    done_before = does.done k worked.0 worked.1
+
+    pub seats_before : AreSeatsOf watches middle
+    seats_before = seats_of_done k (worked.0 ++ does.lines) watches middle done_before
+
+    -- one line more is done
+    pub lines_more : (after : List (SeatModel Entry F)) → StandsAbove above line → DoesLineBelow (length watches) watches line middle after → DoLines watches above queue left before after
+    lines_more after stands more = record {
+      lines = does.lines ++ line ∷ [];
+      taken = does.taken ∙ sym (append_assoc does.lines (line ∷ []) left);
+      stand = All-push (StandsAbove above) does.lines line does.stand stands;
+      done = λ j script h.
+          subst (λ (l : List ScriptLine). HaveDone j l watches after) (append_assoc script does.lines (line ∷ []))
+          (lines_done j (script ++ does.lines) line watches middle after (does.done j script h) more);
+      keep = keep_trans before middle after (done_before.count ∙ sym worked.1.count) does.keep (lines_keep line watches middle after seats_before more);
+    }

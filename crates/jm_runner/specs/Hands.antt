@@ -1,5 +1,5 @@
 -- The seats of one caller, and the seats of one watch.
-use Rattle.std.specs.Prelude.{◌≡◌, ◌<◌, ◌≤◌, ℕ, List, [], All, Any, Some, length, slice_get}
+use Rattle.std.specs.Prelude.{◌≡◌, ◌≤◌, ℕ, List, [], All, Any, Some, length, slice_get}
 use mathlib.Core.List.{IsPrefix}
 use Rattle.jm_model.specs.Meanings.{Meaning}
 use Rattle.jm_model.specs.declared.step.Entry.{Entry}
@@ -7,6 +7,7 @@ use Rattle.jm_semantics.specs.Legality.{IsLegal}
 use Rattle.jm_core.specs.Cores.{Core, FitsHistory}
 use Rattle.jm_turn.specs.Lists.{entries_by}
 use Rattle.jm_turn.specs.Seats.{LockModel, SeatModel, IsSeatOf, own_entries}
+use Rattle.jm_script.specs.Catalogs.{most_specs}
 use Rattle.jm_script.specs.declared.script.ScriptLine.{ScriptLine}
 use Rattle.jm_dispatch.specs.declared.watched.Fixed.{Fixed}
 use Rattle.jm_dispatch.specs.Steps.{caller_of}
@@ -18,15 +19,15 @@ use Rattle.jm_runner.specs.Work.{FitsWatches, HaveDone}
 abbrev pub FitAll : {D : Type 0} → (D → Meaning) → List (LockModel (Fixed D)) → List (List ScriptLine) → Type 0
 FitAll meaning watches scripts = All (λ script. All (λ line. FitsWatches meaning watches line) script) scripts
 
--- These are the seats of a caller, who has a script that fits the watches, and has done nothing of it.
+-- These are the seats of a caller, who has done nothing, and the lines of its script. They fit the watches.
 pub record CanWork {D : Type 0} (meaning : D
     → Meaning) (watches : List (LockModel (Fixed D))) (scripts : List (List ScriptLine))
-    (seats : List (SeatModel Entry (Fixed D))) : Type 0 where
+    (seats : List (SeatModel Entry (Fixed D))) (lines : List ScriptLine) : Type 0 where
   pub some : 1 ≤ length watches
-  pub few : length watches ≤ 16
-  pub fits : FitAll meaning watches scripts
+  pub few : length watches ≤ most_specs
+  pub fits : All (λ line. FitsWatches meaning watches line) lines
   pub caller : ℕ
-  pub has_script : caller < length scripts
+  pub script : slice_get scripts caller ≡ Some lines
   pub idle : HaveDone caller [] watches seats
 
 -- A caller has done its script, and its seats know of each of its waits what a script has above the post.

@@ -88,15 +88,13 @@ module _ {F : Type 0} where
     pub once : ArePostedOnce cuts
     pub rising : RisesFrom 1 lines
 
-  -- A run is named by these scripts, by what they ask for and by these watches. The lines of each rise, no name is
-  -- posted twice, and all names are below this number.
+  -- A run is named by scripts, by what they ask for, which is this, and by these watches. The lines of each rise, no
+  -- name is posted twice, and all names are below this number.
   pub record IsNamed (scripts : List (List ScriptLine)) (cuts : List (List SyncLine)) (named : List (LockModel F))
-      (given : List (List ScriptLine)) (asked : List (List SyncLine)) (watches : List (LockModel F))
-      (names : ℕ) : Type 0 where
-    pub scripts_are : scripts ≡ given
+      (asked : List (List SyncLine)) (watches : List (LockModel F)) (names : ℕ) : Type 0 where
     pub cuts_are : cuts ≡ asked
     pub watches_are : named ≡ watches
-    pub count : length asked ≡ length given
+    pub count : length asked ≡ length scripts
     pub once : ArePostedOnce asked
     pub rising : All (λ lines. RisesFrom 1 lines) asked
     pub below : HaveNamesBelow names asked

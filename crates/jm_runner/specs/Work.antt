@@ -1,5 +1,5 @@
 -- What the seats of one caller have done.
-use Rattle.std.specs.Prelude.{◌≡◌, ◌≢◌, ◌<◌, ◌≤◌, ℕ, List, [], ◌∷◌, ◌++◌, All, true, length, map, Some, slice_get}
+use Rattle.std.specs.Prelude.{◌≡◌, ◌≢◌, ◌<◌, ◌≤◌, ℕ, List, [], ◌∷◌, ◌++◌, All, true, length, map, Option, Some, slice_get}
 use Rattle.jm_model.specs.Meanings.{Meaning}
 use Rattle.jm_model.specs.declared.step.Step.{Step}
 use Rattle.jm_model.specs.declared.step.Outcome.TheVariants.{NoMemory}
@@ -9,10 +9,11 @@ use Rattle.jm_core.specs.Replays.{line_and_step}
 use Rattle.jm_core.specs.Steps.{IsFitStep}
 use Rattle.jm_turn.specs.Seats.{LockModel, SeatModel, IsSeatOf, own_entries}
 use Rattle.jm_script.specs.declared.script.ScriptLine.{ScriptLine}
+use Rattle.jm_script.specs.Blocks.{StandsAbove}
 use Rattle.jm_script.specs.Projections.{script_of, spec_of, step_of}
 use Rattle.jm_dispatch.specs.declared.watched.Fixed.{Fixed}
 use Rattle.jm_dispatch.specs.Steps.{caller_of}
-use Rattle.jm_runner.specs.Orders.{KeepsOrder}
+use Rattle.jm_runner.specs.Orders.{KeepsOrder, KeepOrder}
 
 module _ {F : Type 0} where
   -- Seat k of the watch, whose own entries are these steps, in order. None ran out of memory.
@@ -48,6 +49,21 @@ module _ {F : Type 0} where
     pub count : length seats ≡ length watches
     pub each : (s : ℕ) (watch : LockModel F) (seat : SeatModel Entry F) → slice_get watches s ≡ Some watch
         → slice_get seats s ≡ Some seat → IsSeatOf watch seat
+
+  -- the caller has one seat of each watch, and has done some script on them
+  abbrev pub HaveWorked : ℕ → List (LockModel F) → List (SeatModel Entry F) → Type 0
+  HaveWorked k watches seats = (script : List ScriptLine) × HaveDone k script watches seats
+
+  -- Lines that stand above this one were taken from the front of a queue, and the seats have done them in order. They
+  -- know still what they knew of order.
+  pub record DoLines (watches : List (LockModel F)) (above : Option ℕ) (queue left : List ScriptLine)
+      (before after : List (SeatModel Entry F)) : Type 0 where
+    pub lines : List ScriptLine
+    pub taken : queue ≡ lines ++ left
+    pub stand : All (λ line. StandsAbove above line) lines
+    pub done : (k : ℕ) (script : List ScriptLine) → HaveDone k script watches before
+        → HaveDone k (script ++ lines) watches after
+    pub keep : KeepOrder before after
 
   -- Each seat below place n has done what one line more has for its specification, and the others are as before.
   pub record DoesLineBelow (n : ℕ) (watches : List (LockModel F)) (line : ScriptLine)

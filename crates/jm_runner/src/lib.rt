@@ -27,4 +27,4 @@ mod worker;
 mod workers;
 
 pub use gate::{FreeGate, Gate};
-pub use run::{Running, run_scripts, run_with_notes};
+pub use run::{Running, run_queues, run_scripts, run_with_notes};

@@ -1,11 +1,10 @@
 //! What one caller does.
-ghost use Rattle.std.specs.Prelude.{◌≡◌, ◌<◌, ◌≤◌, [], ◌∷◌, ◌++◌, All, IfOk, OnOk, drop, length, take, vec_len};
+ghost use Rattle.std.specs.Prelude.{◌≡◌, ◌<◌, ◌≤◌, [], All, IfOk, OnOk, length, vec_len};
 ghost use Rattle.jm_core.specs.Steps.{IsFitStep};
 ghost use Rattle.jm_turn.specs.Seats.{IsSeatOf};
-ghost use Rattle.jm_script.specs.Meanings.{RisesFrom};
-ghost use Rattle.jm_runner.specs.Orders.{KeepOrder};
+ghost use Rattle.jm_script.specs.Blocks.{StandsFrom};
 ghost use Rattle.jm_runner.specs.Notes.{KnowPosts, TakesPart};
-ghost use Rattle.jm_runner.specs.Work.{AreSeatsOf, DoesLine, DoesLineBelow, DoesStep, FitsWatch, FitsWatches, HaveDone};
+ghost use Rattle.jm_runner.specs.Work.{AreSeatsOf, DoesLine, DoesLineBelow, DoesStep, DoLines, FitsWatch, FitsWatches, HaveDone, HaveWorked};
 ghost use Rattle.jm_script.specs.Catalogs.{most_specs};
 
 use crate::gate::Gate;
@@ -13,31 +12,37 @@ use crate::notices::Notices;
 use crate::parcel::Naming;
 use jm_dispatch::{Seat, Watch};
 use jm_model::{Monitor, NoMemory, Outcome, Step};
-use jm_script::{CompactScript, ScriptLine};
+use jm_script::{LineQueue, ScriptLine};
 use jm_sync::Cut;
 use std::alloc::Global;
 use std::sync::Wait;
 
-/// Does a script's lines in order, on one seat of each watch, and passes the lines that ask for order where they stand.
-/// A caller that stops gives up the names that it hasn't posted.
+/// The seats of one caller, and the lines of its script that aren't done.
+#[derive(Drop)]
+pub(crate) struct Hand<M: Monitor> {
+    pub seats: Vec<Seat<M>>,
+    pub lines: LineQueue,
+}
+
+/// Does the lines of a caller's script in order, on one seat of each watch, and passes the lines that ask for order
+/// where they stand. Each line is let go once it is done. A caller that stops gives up the names that it hasn't posted.
 pub(crate) fn work<M: Monitor, J: Naming<M::Definition>, G: Gate>(
     rt: &impl Wait,
     alloc: Global,
     watches: &[Watch<M>],
     caller: u32,
-    mut seats: Vec<Seat<M>>,
-    script: &CompactScript,
+    mut hand: Hand<M>,
     cut: &Cut,
     notices: &Notices<M, J>,
     gate: &G,
-) -> Result<Vec<Seat<M>>, NoMemory>
+) -> Result<Hand<M>, NoMemory>
     requires bounded { length watches.now ≤ most_specs }
-    requires seats { HaveDone caller [] watches.now seats.items }
-    requires fits { All (λ line. FitsWatches M.meaning watches.now line) script.now }
-    requires part { TakesPart J.scripts J.cuts J.watches caller script.now cut.now.lines.items watches.now }
+    requires seats { HaveDone caller [] watches.now hand.seats.items }
+    requires fits { All (λ line. FitsWatches M.meaning watches.now line) hand.lines }
+    requires part { TakesPart J.scripts J.cuts J.watches caller hand.lines cut.now.lines.items watches.now }
     requires names { All (λ l. l.name < notices.now) cut.now.lines.items }
-    ensures done { IfOk result (λ back. HaveDone caller script.now watches.now back.items) }
-    ensures know { IfOk result (λ back. KnowPosts J.scripts J.cuts cut.now.lines.items back.items) }
+    ensures done { IfOk result (λ back. HaveDone caller hand.lines watches.now back.seats.items) }
+    ensures know { IfOk result (λ back. KnowPosts J.scripts J.cuts cut.now.lines.items back.seats.items) }
 {
     let mut passed = 0;
     match do_script(
@@ -45,14 +50,13 @@ pub(crate) fn work<M: Monitor, J: Naming<M::Definition>, G: Gate>(
         alloc,
         watches,
         caller,
-        &mut seats,
-        script,
+        &mut hand,
         cut,
         notices,
         gate,
         &mut passed,
     ) {
-        Ok(()) => Ok(seats),
+        Ok(()) => Ok(hand),
         Err(refused) => {
             notices.give_up(rt, &cut.lines[passed..]);
             Err(refused)
@@ -60,89 +64,74 @@ pub(crate) fn work<M: Monitor, J: Naming<M::Definition>, G: Gate>(
     }
 }
 
-/// Does all lines, and counts those that were passed.
+/// Does all lines, and counts the lines that ask for order and were passed.
 fn do_script<M: Monitor, J: Naming<M::Definition>, G: Gate>(
     rt: &impl Wait,
     alloc: Global,
     watches: &[Watch<M>],
     caller: u32,
-    seats: &mut Vec<Seat<M>>,
-    script: &CompactScript,
+    hand: &mut Hand<M>,
     cut: &Cut,
     notices: &Notices<M, J>,
     gate: &G,
     passed: &mut usize,
 ) -> Result<(), NoMemory>
     requires bounded { length watches.now ≤ most_specs }
-    requires seats { HaveDone caller [] watches.now seats.old.items }
-    requires fits { All (λ line. FitsWatches M.meaning watches.now line) script.now }
-    requires part { TakesPart J.scripts J.cuts J.watches caller script.now cut.now.lines.items watches.now }
+    requires seats { HaveDone caller [] watches.now hand.old.seats.items }
+    requires fits { All (λ line. FitsWatches M.meaning watches.now line) hand.old.lines }
+    requires part { TakesPart J.scripts J.cuts J.watches caller hand.old.lines cut.now.lines.items watches.now }
     requires names { All (λ l. l.name < notices.now) cut.now.lines.items }
     ensures passed { passed.new ≤ vec_len cut.now.lines }
-    ensures done { OnOk result (HaveDone caller script.now watches.now seats.new.items) }
-    ensures know { OnOk result (KnowPosts J.scripts J.cuts cut.now.lines.items seats.new.items) }
+    ensures done { OnOk result (HaveDone caller hand.old.lines watches.now hand.new.seats.items) }
+    ensures know { OnOk result (KnowPosts J.scripts J.cuts cut.now.lines.items hand.new.seats.items) }
 {
-    let all = script.len();
     let mut done = 0;
     *passed = 0;
     for sync in &cut.lines {
-        let above = first_from(script, done, sync.line);
-        do_lines(rt, alloc, watches, caller, seats, script, done, above, gate)?;
-        notices.pass(rt, alloc, watches, seats, *sync)?;
-        done = above;
+        done = do_lines(
+            rt,
+            alloc,
+            watches,
+            caller,
+            hand,
+            Some(sync.line),
+            done,
+            gate,
+        )?;
+        notices.pass(rt, alloc, watches, &mut hand.seats, *sync)?;
         *passed += 1;
     }
-    do_lines(rt, alloc, watches, caller, seats, script, done, all, gate)
+    do_lines(rt, alloc, watches, caller, hand, None, done, gate)?;
+    Ok(())
 }
 
-/// The first place, from `from` on, whose line doesn't stand above this one.
-fn first_from(script: &CompactScript, from: usize, number: u32) -> usize
-    requires within { from ≤ length script.now }
-    requires rising { RisesFrom 1 script.now }
-    requires above { All (λ l. l.line < number) (take from script.now) }
-    ensures within { (from ≤ result) × (result ≤ length script.now) }
-    ensures above { All (λ l. l.line < number) (take result script.now) }
-    ensures below { All (λ l. number ≤ l.line) (drop result script.now) }
-{
-    for place in from..script.len() {
-        if number <= script.number(place) {
-            return place;
-        }
-    }
-    script.len()
-}
-
-/// Does the lines from a place up to another. The gate counts them from 1.
+/// Does the lines that stand above line `above`; without such a line, all that are left. The gate counts a caller's
+/// lines from 1. The answer is how many are done, where `done` were done before, or 2^32 - 1 where they are more.
 fn do_lines<M: Monitor, G: Gate>(
     rt: &impl Wait,
     alloc: Global,
     watches: &[Watch<M>],
     caller: u32,
-    seats: &mut Vec<Seat<M>>,
-    script: &CompactScript,
-    from: usize,
-    to: usize,
+    hand: &mut Hand<M>,
+    above: Option<u32>,
+    done: u32,
     gate: &G,
-) -> Result<(), NoMemory>
+) -> Result<u32, NoMemory>
     requires bounded { length watches.now ≤ most_specs }
-    requires places { (from ≤ to) × (to ≤ length script.now) }
-    requires seats { HaveDone caller (take from script.now) watches.now seats.old.items }
-    requires fits { All (λ line. FitsWatches M.meaning watches.now line) script.now }
-    ensures done { OnOk result (HaveDone caller (take to script.now) watches.now seats.new.items) }
-    ensures keep { OnOk result (KeepOrder seats.old.items seats.new.items) }
+    requires seats { HaveWorked caller watches.now hand.old.seats.items }
+    requires fits { All (λ line. FitsWatches M.meaning watches.now line) hand.old.lines }
+    ensures done { OnOk result
+        (DoLines watches.now above hand.old.lines hand.new.lines hand.old.seats.items hand.new.seats.items) }
+    ensures left { OnOk result (All (StandsFrom above) hand.new.lines) }
 {
-    for place in from..to {
-        let n = number_of(place);
-        gate.before(caller, n);
-        do_line(rt, alloc, watches, seats, &script.line(place))?;
-        gate.after(caller, n);
+    let mut count = done;
+    while let Some(line) = hand.lines.pop_above(above) {
+        count = count.saturating_add(1);
+        gate.before(caller, count);
+        do_line(rt, alloc, watches, &mut hand.seats, &line)?;
+        gate.after(caller, count);
     }
-    Ok(())
-}
-
-/// The number of a line by its place.
-fn number_of(place: usize) -> u32 {
-    u32::try_from(place).unwrap_or(u32::MAX).saturating_add(1)
+    Ok(count)
 }
 
 /// Does a line on each watch that it is for, in order.

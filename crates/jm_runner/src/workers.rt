@@ -9,10 +9,9 @@ ghost use denote.Param.Send.{IsSend, IsSync};
 use crate::gate::Gate;
 use crate::notices::Notices;
 use crate::parcel::{Naming, Parcel};
-use crate::worker::work;
-use jm_dispatch::{Seat, Watch, Watched};
+use crate::worker::{Hand, work};
+use jm_dispatch::{Watch, Watched};
 use jm_model::{Monitor, NoMemory};
-use jm_script::CompactScript;
 use jm_sync::{Board, Cut, GaveUp};
 use jm_turn::Lock;
 use std::alloc::Global;
@@ -25,23 +24,25 @@ use std::{mem, thread};
 /// One for each script at most.
 const THREADS: usize = 16;
 
-/// What a worker's thread gives back: seats that have done the script of these, where there was memory for it.
+/// What a worker's thread gives back: a hand whose seats have done the script of this one, where there was memory for
+/// it.
 #[derive(Drop)]
 struct Works<M: Monitor, J: Naming<M::Definition>> {
-    before: Snapshot<Vec<Seat<M>>>,
+    before: Snapshot<Hand<M>>,
     of: PhantomData<J>,
 }
 
-impl<M: Monitor, J: Naming<M::Definition>> Promise<Result<Vec<Seat<M>>, NoMemory>> for Works<M, J> {
+impl<M: Monitor, J: Naming<M::Definition>> Promise<Result<Hand<M>, NoMemory>> for Works<M, J> {
     ghost use Rattle.std.specs.Prelude.{IfOk};
     ghost use Rattle.jm_runner.specs.Hands.{HasWorked};
 
-    ghost kept_by = { λ p r. IfOk r (λ back. HasWorked J.watches J.scripts J.cuts p.before.value.items back.items) };
+    ghost kept_by = { λ p r. IfOk r (λ back. HasWorked
+        J.watches J.scripts J.cuts p.before.value.seats.items back.seats.items) };
 }
 
-/// All workers do their scripts. They get the seats of one caller each, and give them back. Where some script asks for
-/// order each worker has a thread of its own, or the answer is NoMemory; elsewhere the caller does what no thread can
-/// be had for.
+/// All workers do their scripts. Each gets the hand of one caller, and gives it back with no line left to do. Where some
+/// script asks for order each worker has a thread of its own, or the answer is NoMemory; elsewhere the caller does what
+/// no thread can be had for.
 pub(crate) fn work_all<
     M: Monitor + Send,
     J: Naming<M::Definition> + Send + Sync,
@@ -51,25 +52,24 @@ pub(crate) fn work_all<
     rt: &R,
     alloc: Global,
     watches: &[Watch<M>],
-    scripts: &[CompactScript],
     cuts: &[Cut],
     notices: &Notices<M, J>,
-    hands: Vec<Vec<Seat<M>>>,
+    hands: Vec<Hand<M>>,
     gate: &G,
-) -> Result<Vec<Vec<Seat<M>>>, NoMemory>
+) -> Result<Vec<Hand<M>>, NoMemory>
 where
     M::State: Send,
-    requires hands { All (λ v. CanWork M.meaning watches.now scripts.now v.items) hands.items }
-    requires named { IsNamed J.scripts J.cuts J.watches scripts.now (sync_of cuts.now) watches.now notices.now }
+    requires hands { All (λ h. CanWork M.meaning watches.now J.scripts h.seats.items h.lines) hands.items }
+    requires named { IsNamed J.scripts J.cuts J.watches (sync_of cuts.now) watches.now notices.now }
     ensures count { IfOk result (λ back. vec_len back ≡ vec_len hands) }
     ensures worked { IfOk result (λ back. (k : ℕ) (before : _) (after : _) → slice_get hands.items k ≡ Some before
         → slice_get back.items k ≡ Some after
-        → HasWorked watches.now scripts.now (sync_of cuts.now) before.items after.items) }
+        → HasWorked watches.now J.scripts (sync_of cuts.now) before.seats.items after.seats.items) }
 {
     if ask_for_nothing(cuts) {
-        work_unordered(rt, alloc, watches, scripts, cuts, notices, hands, gate)
+        work_unordered(rt, alloc, watches, cuts, notices, hands, gate)
     } else {
-        work_ordered(rt, alloc, watches, scripts, cuts, notices, hands, gate)
+        work_ordered(rt, alloc, watches, cuts, notices, hands, gate)
     }
 }
 
@@ -92,51 +92,50 @@ fn work_ordered<
     rt: &R,
     alloc: Global,
     watches: &[Watch<M>],
-    scripts: &[CompactScript],
     cuts: &[Cut],
     notices: &Notices<M, J>,
-    hands: Vec<Vec<Seat<M>>>,
+    hands: Vec<Hand<M>>,
     gate: &G,
-) -> Result<Vec<Vec<Seat<M>>>, NoMemory>
+) -> Result<Vec<Hand<M>>, NoMemory>
 where
     M::State: Send,
-    requires hands { All (λ v. CanWork M.meaning watches.now scripts.now v.items) hands.items }
-    requires named { IsNamed J.scripts J.cuts J.watches scripts.now (sync_of cuts.now) watches.now notices.now }
+    requires hands { All (λ h. CanWork M.meaning watches.now J.scripts h.seats.items h.lines) hands.items }
+    requires named { IsNamed J.scripts J.cuts J.watches (sync_of cuts.now) watches.now notices.now }
     ensures count { IfOk result (λ back. vec_len back ≡ vec_len hands) }
     ensures worked { IfOk result (λ back. (k : ℕ) (before : _) (after : _) → slice_get hands.items k ≡ Some before
         → slice_get back.items k ≡ Some after
-        → HasWorked watches.now scripts.now (sync_of cuts.now) before.items after.items) }
+        → HasWorked watches.now J.scripts (sync_of cuts.now) before.seats.items after.seats.items) }
 {
     thread::scope(
         thread::scope_env(),
         rt,
-        |scope| -> Result<Vec<Vec<Seat<M>>>, NoMemory>
+        |scope| -> Result<Vec<Hand<M>>, NoMemory>
             requires sent { IsSend M.row × IsSend J.row × IsSend M.State.row }
             requires shared { IsSync J.row × IsSync G.row × IsSync R.row }
-            requires hands { All (λ v. CanWork M.meaning watches.now scripts.now v.items) hands.items }
+            requires hands { All (λ h. CanWork M.meaning watches.now J.scripts h.seats.items h.lines) hands.items }
             requires named { IsNamed
-                J.scripts J.cuts J.watches scripts.now (sync_of cuts.now) watches.now notices.now }
+                J.scripts J.cuts J.watches (sync_of cuts.now) watches.now notices.now }
             ensures count { IfOk result (λ back. vec_len back ≡ vec_len hands) }
             ensures worked { IfOk result (λ back. (k : ℕ) (before : _) (after : _)
                 → slice_get hands.items k ≡ Some before → slice_get back.items k ≡ Some after
                 → HasWorked
-                watches.entry.now scripts.entry.now (sync_of cuts.entry.now) before.items after.items) }
+                watches.entry.now J.scripts (sync_of cuts.entry.now) before.seats.items after.seats.items) }
         {
             let mut workers = Vec::with_capacity(alloc, hands.len())?;
-            for seats in hands {
+            for hand in hands {
                 let promise: Works<M, J> = Works {
-                    before: Snapshot::of(&seats),
+                    before: Snapshot::of(&hand),
                     of: PhantomData,
                 };
                 let started = scope.spawn_with(
                     promise,
-                    move || -> Result<Vec<Seat<M>>, NoMemory>
-                        requires can { CanWork M.meaning watches.now scripts.now seats.items }
+                    move || -> Result<Hand<M>, NoMemory>
+                        requires can { CanWork M.meaning watches.now J.scripts hand.seats.items hand.lines }
                         requires named { IsNamed
-                            J.scripts J.cuts J.watches scripts.now (sync_of cuts.now) watches.now notices.now }
-                        ensures { IfOk result (λ back. HasWorked watches.entry.now scripts.entry.now
-                            (sync_of cuts.entry.now) seats.items back.items) }
-                    { work_one(rt, alloc, watches, scripts, cuts, notices, seats, gate) },
+                            J.scripts J.cuts J.watches (sync_of cuts.now) watches.now notices.now }
+                        ensures { IfOk result (λ back. HasWorked watches.entry.now J.scripts
+                            (sync_of cuts.entry.now) hand.seats.items back.seats.items) }
+                    { work_one(rt, alloc, watches, cuts, notices, hand, gate) },
                 );
                 let Ok(worker) = started else {
                     notices.give_up_all(rt, cuts);
@@ -166,20 +165,19 @@ fn work_unordered<
     rt: &R,
     alloc: Global,
     watches: &[Watch<M>],
-    scripts: &[CompactScript],
     cuts: &[Cut],
     notices: &Notices<M, J>,
-    hands: Vec<Vec<Seat<M>>>,
+    hands: Vec<Hand<M>>,
     gate: &G,
-) -> Result<Vec<Vec<Seat<M>>>, NoMemory>
+) -> Result<Vec<Hand<M>>, NoMemory>
 where
     M::State: Send,
-    requires hands { All (λ v. CanWork M.meaning watches.now scripts.now v.items) hands.items }
-    requires named { IsNamed J.scripts J.cuts J.watches scripts.now (sync_of cuts.now) watches.now notices.now }
+    requires hands { All (λ h. CanWork M.meaning watches.now J.scripts h.seats.items h.lines) hands.items }
+    requires named { IsNamed J.scripts J.cuts J.watches (sync_of cuts.now) watches.now notices.now }
     ensures count { IfOk result (λ back. vec_len back ≡ vec_len hands) }
     ensures worked { IfOk result (λ back. (k : ℕ) (before : _) (after : _) → slice_get hands.items k ≡ Some before
         → slice_get back.items k ≡ Some after
-        → HasWorked watches.now scripts.now (sync_of cuts.now) before.items after.items) }
+        → HasWorked watches.now J.scripts (sync_of cuts.now) before.seats.items after.seats.items) }
 {
     // The workers share the watches and the board. Steps show that they may, since the search for all of it ends at its
     // limit.
@@ -193,13 +191,13 @@ where
         rt,
         &mut slots,
         THREADS,
-        &|_k: usize, slot: &mut Result<Vec<Seat<M>>, NoMemory>|
-            requires can { IfOk slot.now (λ seats. CanWork M.meaning watches.now scripts.now seats.items) }
+        &|_k: usize, slot: &mut Result<Hand<M>, NoMemory>|
+            requires can { IfOk slot.now (λ h. CanWork M.meaning watches.now J.scripts h.seats.items h.lines) }
             requires named { IsNamed
-                J.scripts J.cuts J.watches scripts.now (sync_of cuts.now) watches.now notices.now }
-            ensures { IfOk slot.exit.now (λ back. IfOk slot.entry.now (λ seats. HasWorked
-                watches.entry.now scripts.entry.now (sync_of cuts.entry.now) seats.items back.items)) }
-        { work_slot(rt, alloc, watches, scripts, cuts, notices, slot, gate) },
+                J.scripts J.cuts J.watches (sync_of cuts.now) watches.now notices.now }
+            ensures { IfOk slot.exit.now (λ back. IfOk slot.entry.now (λ h. HasWorked
+                watches.entry.now J.scripts (sync_of cuts.entry.now) h.seats.items back.seats.items)) }
+        { work_slot(rt, alloc, watches, cuts, notices, slot, gate) },
     );
     all_ok(alloc, slots)
 }
@@ -231,50 +229,48 @@ fn all_ok<T: Drop>(alloc: Global, all: Vec<Result<T, NoMemory>>) -> Result<Vec<T
     Ok(values)
 }
 
-/// The caller whose seats are in the slot does its script, and puts them back, or NoMemory where it gave up.
+/// The caller whose hand is in the slot does its script, and puts it back, or NoMemory where it gave up.
 fn work_slot<M: Monitor, J: Naming<M::Definition>, G: Gate>(
     rt: &impl Wait,
     alloc: Global,
     watches: &[Watch<M>],
-    scripts: &[CompactScript],
     cuts: &[Cut],
     notices: &Notices<M, J>,
-    slot: &mut Result<Vec<Seat<M>>, NoMemory>,
+    slot: &mut Result<Hand<M>, NoMemory>,
     gate: &G,
 )
-    requires can { IfOk slot.old (λ seats. CanWork M.meaning watches.now scripts.now seats.items) }
-    requires named { IsNamed J.scripts J.cuts J.watches scripts.now (sync_of cuts.now) watches.now notices.now }
-    ensures { IfOk slot.new (λ back. IfOk slot.old (λ seats. HasWorked
-        watches.now scripts.now (sync_of cuts.now) seats.items back.items)) }
+    requires can { IfOk slot.old (λ h. CanWork M.meaning watches.now J.scripts h.seats.items h.lines) }
+    requires named { IsNamed J.scripts J.cuts J.watches (sync_of cuts.now) watches.now notices.now }
+    ensures { IfOk slot.new (λ back. IfOk slot.old (λ h. HasWorked
+        watches.now J.scripts (sync_of cuts.now) h.seats.items back.seats.items)) }
 {
-    if let Ok(seats) = mem::replace(slot, Err(NoMemory)) {
-        *slot = work_one(rt, alloc, watches, scripts, cuts, notices, seats, gate);
+    if let Ok(hand) = mem::replace(slot, Err(NoMemory)) {
+        *slot = work_one(rt, alloc, watches, cuts, notices, hand, gate);
     }
 }
 
-/// The caller whose seats these are does its script.
+/// The caller whose hand this is does its script.
 fn work_one<M: Monitor, J: Naming<M::Definition>, G: Gate>(
     rt: &impl Wait,
     alloc: Global,
     watches: &[Watch<M>],
-    scripts: &[CompactScript],
     cuts: &[Cut],
     notices: &Notices<M, J>,
-    seats: Vec<Seat<M>>,
+    hand: Hand<M>,
     gate: &G,
-) -> Result<Vec<Seat<M>>, NoMemory>
-    requires can { CanWork M.meaning watches.now scripts.now seats.items }
-    requires named { IsNamed J.scripts J.cuts J.watches scripts.now (sync_of cuts.now) watches.now notices.now }
-    ensures { IfOk result (λ back. HasWorked watches.now scripts.now (sync_of cuts.now) seats.items back.items) }
+) -> Result<Hand<M>, NoMemory>
+    requires can { CanWork M.meaning watches.now J.scripts hand.seats.items hand.lines }
+    requires named { IsNamed J.scripts J.cuts J.watches (sync_of cuts.now) watches.now notices.now }
+    ensures { IfOk result (λ back.
+        HasWorked watches.now J.scripts (sync_of cuts.now) hand.seats.items back.seats.items) }
 {
-    let caller = seats[0].number();
+    let caller = hand.seats[0].number();
     work(
         rt,
         alloc,
         watches,
         caller,
-        seats,
-        &scripts[caller as usize],
+        hand,
         &cuts[caller as usize],
         notices,
         gate,

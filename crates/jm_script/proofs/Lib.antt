@@ -12,3 +12,4 @@ pub mod KnownLemmas
 pub mod SpreadLemmas
 pub mod BlockLemmas
 pub mod CompactLemmas
+pub mod QueueLemmas

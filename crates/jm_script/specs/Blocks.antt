@@ -1,5 +1,5 @@
 -- Lines in short form: the parameters of an event as a set, and the objects of all lines in one row.
-use Rattle.std.specs.Prelude.{◌≡◌, ℕ, ◌+◌, ◌*◌, ◌<◌, ◌≤◌, List, ◌++◌, map, length, take, drop, Option, option_map, Result, Ok, Err, count_ones, slice_index, All}
+use Rattle.std.specs.Prelude.{◌≡◌, ℕ, ◌+◌, ◌*◌, ◌<◌, ◌≤◌, List, [], ◌∷◌, ◌++◌, map, length, take, drop, Option, None, Some, option_map, Result, Ok, Err, count_ones, slice_index, All}
 use Rattle.std.specs.List.{flat_map}
 use Rattle.jm_model.specs.declared.fault.ScriptError.{ScriptError}
 use Rattle.jm_model.specs.declared.step.Step.{Step}
@@ -79,6 +79,31 @@ pub record IsCompact (full : List (List ScriptLine)) (last : List ScriptLine) : 
   pub room : length last ≤ MOST_LINES
   pub few : length (lines_of full last) ≤ most_steps
   pub rising : RisesFrom 1 (lines_of full last)
+
+-- a queue's first block has a line at this place
+abbrev pub IsBegun : List (List ScriptLine) → ℕ → Type 0
+IsBegun [] place = place ≡ 0
+IsBegun (first ∷ others) place = place < length first
+
+-- the lines of blocks, one after the other, from a place of the first one on
+abbrev pub lines_from : List (List ScriptLine) → ℕ → List ScriptLine
+lines_from blocks place = drop place (flat_map (λ lines. lines) blocks)
+
+-- No block of a queue is empty, and the numbers of the lines that are left rise.
+pub record IsQueue (blocks : List (List ScriptLine)) (place : ℕ) : Type 0 where
+  pub each : All (λ lines. 1 ≤ length lines) blocks
+  pub begun : IsBegun blocks place
+  pub rising : RisesFrom 1 (lines_from blocks place)
+
+-- a line stands above this one, or wherever it is where there is none
+abbrev pub StandsAbove : Option ℕ → ScriptLine → Type 0
+StandsAbove None line = Unit {0}
+StandsAbove (Some number) line = line.line < number
+
+-- a line doesn't stand above this one
+abbrev pub StandsFrom : Option ℕ → ScriptLine → Type 0
+StandsFrom None line = ⊥
+StandsFrom (Some number) line = number ≤ line.line
 
 -- the steps of blocks that are for a specification, block after block
 abbrev pub steps_in : ℕ → List (List ScriptLine) → List (ℕ × Step)

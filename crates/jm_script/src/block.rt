@@ -102,6 +102,15 @@ impl Block {
         })
     }
 
+    /// An equal block.
+    pub(crate) fn copy(&self) -> Result<Block, NoMemory>
+        ensures { IfOk result (λ block. block ≡ self.now) }
+    {
+        let lines = self.lines.clone()?;
+        let objects = self.objects.clone()?;
+        Ok(Block { lines, objects })
+    }
+
     /// Adds a line at the end, whose objects have these numbers.
     #[inline(always)]
     pub(crate) fn push(

@@ -9,6 +9,7 @@ ghost use Rattle.jm_script.specs.Meanings.{most_steps, RisesFrom};
 
 use crate::action::Action;
 use crate::block::{Block, MOST_LINES};
+use crate::queue::LineQueue;
 use crate::script::ScriptLine;
 use jm_model::{NoMemory, Step};
 use std::alloc::Global;
@@ -100,6 +101,30 @@ impl CompactScript {
         add_steps(self.full.as_slice(), spec, &mut steps)?;
         self.last.add_steps(spec, &mut steps)?;
         Ok(steps)
+    }
+
+    /// A queue of the lines.
+    pub fn into_queue(self) -> Result<LineQueue, NoMemory>
+        ensures { IfOk result (λ queue. queue ≡ self) }
+    {
+        let CompactScript { full, last } = self;
+        let mut blocks = full;
+        if last.len() > 0 {
+            blocks.push(last)?;
+        }
+        Ok(LineQueue::of(blocks))
+    }
+
+    /// An equal script.
+    pub fn copy(&self, alloc: Global) -> Result<CompactScript, NoMemory>
+        ensures { IfOk result (λ script. script ≡ self.now) }
+    {
+        let mut full = Vec::with_capacity(alloc, self.full.len())?;
+        for block in &self.full {
+            full.push(block.copy()?)?;
+        }
+        let last = self.last.copy()?;
+        Ok(CompactScript { full, last })
     }
 
     /// The lines in blocks.

@@ -1,36 +1,26 @@
-use Rattle.std.proofs.Common.{◌≡◌, ◌∙◌, List, length, take, Some, slice_get, refl, sym, subst, arith}
-use Rattle.std.proofs.lemmas.Option.{slice_get_read}
+use Rattle.std.proofs.Common.{List, subst}
 use Rattle.jm_script.specs.declared.script.ScriptLine.{ScriptLine}
-use Rattle.jm_runner.specs.Work.{HaveDone}
-use Rattle.jm_runner.proofs.PlaceLemmas.{take_place}
-use Rattle.jm_runner.proofs.NoteLemmas.{keep_self, keep_trans}
-use Rattle.jm_runner.proofs.WorkLemmas.{lines_done, lines_keep, seats_of_done}
+use Rattle.jm_runner.specs.Work.{DoLines, FitsWatches}
+use Rattle.jm_runner.proofs.WorkLemmas.{of_taken, seats_before, lines_more}
 use Rattle.jm_runner.proofs.worker.do_lines.Goals as goal
 
 pub do_line-requires-clause-seats : goal.do_line-requires-clause-seats
-do_line-requires-clause-seats g c = seats_of_done c.args.caller (take c.loop-place.place c.args.script.now) c.args.watches.now c.loop-place.seats.items c.loop-place.invariant.done
+do_line-requires-clause-seats g c =
+    let line = c.in-Some.line in
+    let left = c.pop_above.new.self in
+    let does = subst (λ (l : List ScriptLine). DoLines c.args.watches.now c.args.above c.args.hand.now.lines l c.args.hand.now.seats.items c.loop-line.hand.seats.items) c.in-Some.ensures.line c.loop-line.invariant in
+    seats_before c.args.watches.now c.args.above c.args.hand.now.lines left line c.args.hand.now.seats.items c.loop-line.hand.seats.items does c.args.caller c.requires.seats
 
-pub loop-place-init : goal.loop-place-init
-loop-place-init g c = record { done = c.requires.seats; keep = keep_self c.args.seats.now.items }
+pub do_line-requires-clause-fits : goal.do_line-requires-clause-fits
+do_line-requires-clause-fits g c =
+    let line = c.in-Some.line in
+    let left = c.pop_above.new.self in
+    let does = subst (λ (l : List ScriptLine). DoLines c.args.watches.now c.args.above c.args.hand.now.lines l c.args.hand.now.seats.items c.loop-line.hand.seats.items) c.in-Some.ensures.line c.loop-line.invariant in
+    of_taken c.args.watches.now c.args.above c.args.hand.now.lines left line c.args.hand.now.seats.items c.loop-line.hand.seats.items does (λ line. FitsWatches g.M.Monitor.meaning c.args.watches.now line) c.requires.fits
 
-pub loop-place-preserved : goal.loop-place-preserved
-loop-place-preserved g c =
-    let k = c.args.caller in
-    let place = c.loop-place.place in
-    let lines = c.args.script.now in
-    let line = c.line.result in
-    let watches = c.args.watches.now in
-    let old = c.loop-place.seats.items in
-    let new = c.do_line.new.seats.items in
-    let i = c.loop-place.invariant in
-    let at : slice_get lines place ≡ Some line = c.line.ensures in
-    let are = seats_of_done k (take place lines) watches old i.done in
-    record {
-      done = subst (λ (l : List ScriptLine). HaveDone k l watches new) (sym (take_place lines place line at)) (lines_done k (take place lines) line watches old new i.done c.in_ok-do_line.ensures);
-      keep = keep_trans c.args.seats.now.items old new (i.done.count ∙ sym c.requires.seats.count) i.keep (lines_keep line watches old new are c.in_ok-do_line.ensures);
-    }
-
-pub returns-clause-done : goal.returns-clause-done
-returns-clause-done g c =
-    let same : c.loop-place.place ≡ c.args.to = omega arith in
-    subst (λ n. HaveDone c.args.caller (take n c.args.script.now) c.args.watches.now c.loop-place.seats.items) same c.loop-place.invariant.done
+pub loop-line-preserved : goal.loop-line-preserved
+loop-line-preserved g c =
+    let line = c.in-Some.line in
+    let left = c.pop_above.new.self in
+    let does = subst (λ (l : List ScriptLine). DoLines c.args.watches.now c.args.above c.args.hand.now.lines l c.args.hand.now.seats.items c.loop-line.hand.seats.items) c.in-Some.ensures.line c.loop-line.invariant in
+    lines_more c.args.watches.now c.args.above c.args.hand.now.lines left line c.args.hand.now.seats.items c.loop-line.hand.seats.items does c.args.caller c.requires.seats c.do_line.new.seats.items c.in-Some.ensures.place c.in_ok-do_line.ensures

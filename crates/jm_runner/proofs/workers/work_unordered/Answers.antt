@@ -1,8 +1,7 @@
 use Rattle.std.proofs.Crossing.{crosses}
 use Rattle.std.proofs.MapsCrossing.{crosses as maps}
 use Rattle.std.proofs.lemmas.Result.{IfOk-weaker}
-use Rattle.atomic_table.proofs.shared.Seat.TheSendSync as seat
-use Rattle.jm_runner.proofs.CrossingLemmas.{watched_row, lock_row, board_row, parcel_row, notices_row}
+use Rattle.jm_runner.proofs.CrossingLemmas.{hand_row, watched_row, lock_row, board_row, parcel_row, notices_row}
 use Rattle.std.proofs.Common.{◌≡◌, ◌∙◌, length, ap, arith}
 use Rattle.jm_sync.specs.Checks.{sync_of}
 use Rattle.jm_runner.specs.Hands.{CanWork, HasWorked}
@@ -37,7 +36,7 @@ may_be_shared-requires-4-sync-T g c κs within = search (notices_row, crosses, m
 
 -- What is in a slot may cross threads. This is shown apart from the work, whose facts the search would try too.
 slot_sent : (g : Over) → IsSend (asked.M-row g.row.M g.row.J g.row.G g.row.R g.row.M-State g.row.M-Definition) → IsSend (asked.M-State-row g.row.M g.row.J g.row.G g.row.R g.row.M-State g.row.M-Definition) → (κs : _) → IsSend (param 1 (place.arg-8-1 g.row.M g.row.J g.row.G g.row.R g.row.M-State g.row.M-Definition g.M.laws g.J.laws g.G.laws g.R.laws g.M.State.laws g.M.Definition.laws g.M.Monitor g.M.Monitor-dict g.J.Naming g.J.Naming-dict g.G.Gate g.G.Gate-dict g.R.Threads g.R.Threads-dict g.R.Wait g.R.Wait-dict g.M.Destruct-dict g.M.State.Destruct-dict κs))
-slot_sent g rules_cross states_cross κs = search (watched_row, seat.the_send, crosses, maps, sendable) depth 100 fits 20000
+slot_sent g rules_cross states_cross κs = search (hand_row, crosses, maps, sendable) depth 100 fits 20000
 
 pub for_each_mut-requires-send-T : goal.for_each_mut-requires-send-T
 for_each_mut-requires-send-T g c κs within = slot_sent g c.type_bounds.send-M c.type_bounds.send-M-State κs
@@ -54,7 +53,7 @@ states_sent g cross κs = search (crosses, maps, sendable) depth 100 fits 20000
 
 pub for_each_mut-requires-clause-accepts : goal.for_each_mut-requires-clause-accepts
 for_each_mut-requires-clause-accepts g c κs within = λ i p less is. (
-  at_first (λ v. CanWork g.M.Monitor.meaning c.args.watches.now c.args.scripts.now v.items) c.args.hands.items c.deref_mut.result.now i p.now (c.deref_mut.ensures.value ∙ c.in_ok-slots.ensures) c.requires.hands less is,
+  at_first (λ h. CanWork g.M.Monitor.meaning c.args.watches.now g.J.Naming.scripts h.seats.items h.lines) c.args.hands.items c.deref_mut.result.now i p.now (c.deref_mut.ensures.value ∙ c.in_ok-slots.ensures) c.requires.hands less is,
   (
     c.requires.named,
     (
@@ -72,5 +71,5 @@ pub returns-clause-worked : goal.returns-clause-worked
 returns-clause-worked g c =
     let many : c.in_ok-slots.slots.len ≡ length c.for_each_mut.new.s = omega (arith, c.in_ok-slots.slots.ok.0, c.for_each_mut.auto.s, ap (λ l. length l) c.deref_mut.ensures.value) in
     IfOk-weaker c.all_ok.result _ _ (λ back same k before after bat aat.
-    slot_met _ _ (λ before after. HasWorked c.args.watches.now c.args.scripts.now (sync_of c.args.cuts.now) before.items after.items) c.deref_mut.result.now c.for_each_mut.new.s c.args.hands.items back.items k before after
+    slot_met _ _ (λ before after. HasWorked c.args.watches.now g.J.Naming.scripts (sync_of c.args.cuts.now) before.seats.items after.seats.items) c.deref_mut.result.now c.for_each_mut.new.s c.args.hands.items back.items k before after
     (λ p q post. post) c.for_each_mut.ensures (c.deref_mut.ensures.value ∙ c.in_ok-slots.ensures) (same ∙ front_only c.in_ok-slots.slots.len c.for_each_mut.new.s _ many) bat aat) c.all_ok.ensures
