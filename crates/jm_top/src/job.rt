@@ -146,7 +146,7 @@ fn generated<R: Threads + Wait + Sync, G: Gate>(
     ensures { (contents : FileContents) → IsCarriedOut contents (Gen n) result }
 {
     let inputs = read_workload(alloc, n)?;
-    let text = run_in_short(rt, alloc, inputs.spec_set, &inputs.scripts, gate)?;
+    let text = run_in_short(rt, alloc, inputs.spec_set, inputs.scripts, gate)?;
     Ok(text)
 }
 

@@ -13,8 +13,8 @@ use jm_events::Names;
 use jm_inputs::{CompiledSpec, Scripts, SpecHeader, SpecSet};
 use jm_machine::Rules;
 use jm_model::NoMemory;
-use jm_runner::{Gate, Running, run_with_notes};
-use jm_script::Catalog;
+use jm_runner::{Gate, Running, run_queues};
+use jm_script::{Catalog, CompactScript, LineQueue};
 use std::alloc::Global;
 use std::sync::Wait;
 use std::thread::Threads;
@@ -32,12 +32,12 @@ pub(crate) fn run<R: Threads + Wait + Sync, G: Gate>(
     ensures { IfOk result (λ text. IsTextOfOrdered (specs_in spec_set) scripts.list.items
         (sync_of scripts.cuts.items) scripts.objects text.items) }
 {
-    let runs = run_all(rt, alloc, spec_set, &scripts, gate)?;
-    let objects = objects_of(scripts);
+    let runs = run_all(rt, alloc, spec_set, scripts, gate)?;
     let Runs {
         catalog,
         headers,
         props,
+        objects,
     } = runs;
     let ended = ended_of(alloc, props)?;
     histories_text(
@@ -49,67 +49,74 @@ pub(crate) fn run<R: Threads + Wait + Sync, G: Gate>(
     )
 }
 
-/// The names of the objects of scripts: all else of these is let go.
-fn objects_of(scripts: Scripts) -> Names
-    ensures { result ≡ scripts.objects }
-{
-    let Scripts { objects, .. } = scripts;
-    objects
-}
-
 /// The summaries of the specifications' histories, over which the scripts run.
 pub(crate) fn run_in_short<R: Threads + Wait + Sync, G: Gate>(
     rt: &R,
     alloc: Global,
     spec_set: SpecSet,
-    scripts: &Scripts,
+    scripts: Scripts,
     gate: &G,
 ) -> Result<Vec<u8>, NoMemory>
-    requires ready { CanRunOver spec_set scripts.now }
-    ensures { IfOk result (λ text. IsTextOfSummaries (specs_in spec_set) scripts.now.list.items text.items) }
+    requires ready { CanRunOver spec_set scripts }
+    ensures { IfOk result (λ text. IsTextOfSummaries (specs_in spec_set) scripts.list.items text.items) }
 {
     let runs = run_all(rt, alloc, spec_set, scripts, gate)?;
     summaries_text(alloc, &runs.catalog, runs.props.as_slice())
 }
 
-/// The catalog of the specifications, the header of each, and its core after the run.
+/// The catalog of the specifications, the header of each, and its core after the run; and the names of the scripts'
+/// objects.
 #[derive(Drop)]
 pub(crate) struct Runs {
     pub catalog: Catalog,
     pub headers: Vec<SpecHeader>,
     pub props: Vec<Prop<Rules>>,
+    pub objects: Names,
 }
 
-/// Runs the scripts over the specifications.
+/// Runs the scripts over the specifications. The lines of the scripts are let go as they are done.
 pub(crate) fn run_all<R: Threads + Wait + Sync, G: Gate>(
     rt: &R,
     alloc: Global,
     spec_set: SpecSet,
-    scripts: &Scripts,
+    scripts: Scripts,
     gate: &G,
 ) -> Result<Runs, NoMemory>
-    requires ready { CanRunOver spec_set scripts.now }
+    requires ready { CanRunOver spec_set scripts }
     ensures catalog { IfOk result (λ runs. runs.catalog ≡ spec_set.catalog) }
-    ensures ran { IfOk result (λ runs. AreRunsOf spec_set.specs.items scripts.now.list.items
-        (sync_of scripts.now.cuts.items) runs.headers.items runs.props.items) }
+    ensures ran { IfOk result (λ runs. AreRunsOf spec_set.specs.items scripts.list.items
+        (sync_of scripts.cuts.items) runs.headers.items runs.props.items) }
+    ensures objects { IfOk result (λ runs. runs.objects ≡ scripts.objects) }
 {
     let SpecSet { specs, catalog } = spec_set;
-    let seats = scripts.list.len() as u32;
-    let made = dispatchers(alloc, specs, scripts.objects.len(), seats)?;
+    let Scripts {
+        list,
+        objects,
+        cuts,
+        ..
+    } = scripts;
+    let seats = list.len() as u32;
+    let queues = queues_of(alloc, list)?;
+    let made = dispatchers(alloc, specs, objects.len(), seats)?;
     let NamedDispatchers { headers, watches } = made;
-    let props = run_with_notes(
-        rt,
-        alloc,
-        watches,
-        scripts.list.as_slice(),
-        scripts.cuts.as_slice(),
-        gate,
-    )?;
+    let props = run_queues(rt, alloc, watches, queues, cuts.as_slice(), gate)?;
     Ok(Runs {
         catalog,
         headers,
         props,
+        objects,
     })
+}
+
+/// The lines of each script in a queue.
+fn queues_of(alloc: Global, scripts: Vec<CompactScript>) -> Result<Vec<LineQueue>, NoMemory>
+    ensures { IfOk result (λ queues. queues.items ≡ scripts.items) }
+{
+    let mut queues = Vec::new(alloc);
+    for script in scripts {
+        queues.push(script.into_queue()?)?;
+    }
+    Ok(queues)
 }
 
 /// The header of each specification, and its dispatcher with a seat for each script.

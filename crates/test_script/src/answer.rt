@@ -17,6 +17,7 @@ fn answered(alloc: Global, case: &Case) -> Result<String, SpecError> {
         "project" => script::projected(alloc, case),
         "compact" => compact::compact(alloc, case),
         "blocks" => compact::blocks(alloc, case),
+        "queue" => compact::queue(alloc, case),
         _ => laws(alloc),
     }
 }

@@ -1,4 +1,5 @@
-//! Scripts with lines that take less memory: their lines by place, and their steps at once and block by block.
+//! Scripts with lines that take less memory: their lines by place and one by one, and their steps at once and block by
+//! block.
 ghost use Rattle.std.specs.Prelude.{◌<◌, length};
 
 use crate::catalog::catalog_of;
@@ -103,4 +104,34 @@ fn put_first(alloc: Global, out: &mut String, block: &Block) -> Result<(), Alloc
         out.push_str(one.as_str())?;
     }
     Ok(())
+}
+
+/// The lines of a script that are taken above a line, and after a `/` the numbers of those that are left.
+pub(crate) fn queue(alloc: Global, case: &Case) -> Result<String, SpecError> {
+    let catalog = catalog_of(alloc, case.first.as_str())?;
+    let number = case.second.parse::<u32>().unwrap_or(0);
+    match read(alloc, case, &catalog) {
+        Ok(script) => Ok(taken(alloc, &script, number)?),
+        Err(fault) => Ok(format!(in alloc; "{fault:?}")?),
+    }
+}
+
+fn taken(alloc: Global, script: &CompactScript, number: u32) -> Result<String, NoMemory> {
+    let mut queue = script.copy(alloc)?.into_queue()?;
+    let mut out = String::new(alloc);
+    for _place in 0..script.len() {
+        let Some(line) = queue.pop_above(Some(number)) else {
+            break;
+        };
+        let target = target_shown(alloc, &line.target)?;
+        out.push_str(format!(in alloc; "{}:{target};", line.line)?.as_str())?;
+    }
+    out.push('/')?;
+    for _place in 0..script.len() {
+        let Some(line) = queue.pop_above(None) else {
+            break;
+        };
+        out.push_str(format!(in alloc; "{};", line.line)?.as_str())?;
+    }
+    Ok(out)
 }

@@ -16,11 +16,11 @@ histories_text-requires-clause-many g c =
 
 pub histories_text-requires-clause-printable : goal.histories_text-requires-clause-printable
 histories_text-requires-clause-printable g c =
-    rw (c.as_slice.ensures.value, c.as_slice-2.ensures.value, c.in_ok-runs.ensures.catalog, c.in_ok-ended.ensures.rules, c.in_ok-ended.ensures.histories, c.objects_of-objects.ensures)
+    rw (c.as_slice.ensures.value, c.as_slice-2.ensures.value, c.in_ok-runs.ensures.catalog, c.in_ok-ended.ensures.rules, c.in_ok-ended.ensures.histories, c.in_ok-runs.ensures.objects)
     (runs_printable c.args.spec_set c.args.scripts c.requires.ready.catalogued c.requires.ready.counted c.in_ok-runs.runs.headers.items c.in_ok-runs.runs.props.items c.in_ok-runs.ensures.ran)
 
 pub returns : goal.returns
 returns g c =
     made_text (λ text. text.items) _ _ c.histories_text.result
     (runs_text c.args.spec_set c.args.scripts c.requires.ready.catalogued c.requires.ready.counted c.in_ok-runs.runs.headers.items c.in_ok-runs.runs.props.items c.in_ok-runs.ensures.ran)
-    (rw (c.as_slice.ensures.value, c.as_slice-2.ensures.value, c.in_ok-runs.ensures.catalog, c.in_ok-ended.ensures.rules, c.in_ok-ended.ensures.histories, c.objects_of-objects.ensures) at c.histories_text.ensures)
+    (rw (c.as_slice.ensures.value, c.as_slice-2.ensures.value, c.in_ok-runs.ensures.catalog, c.in_ok-ended.ensures.rules, c.in_ok-ended.ensures.histories, c.in_ok-runs.ensures.objects) at c.histories_text.ensures)
