@@ -19,6 +19,6 @@ pub use cursor::Cursor;
 pub use events::{GrammarWords, check_event_names, letter_of};
 pub use items::Items;
 pub use names::{add_name, name_of};
-pub use nesting::few_nested;
+pub use nesting::check_nesting;
 pub use ranges::range_of;
 pub use repeat::{Repeat, fold_many};
