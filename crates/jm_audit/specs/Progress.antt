@@ -7,6 +7,7 @@ use Rattle.jm_model.specs.declared.step.Entry.{Entry}
 use Rattle.jm_model.specs.declared.step.Step.{Step}
 use Rattle.jm_semantics.specs.Histories.{trace_of}
 use Rattle.jm_semantics.specs.Traces.{seen_of}
+use Rattle.jm_script.specs.Catalogs.{most_scripts}
 use Rattle.jm_print.specs.Lexicons.{Lexicon}
 use Rattle.jm_print.specs.Names.{IsNamed}
 use Rattle.jm_print.specs.Texts.{full_entry_text}
@@ -38,7 +39,7 @@ pub record IsWrittenNext (m : Meaning) (l : Lexicon) (before after : Progress) (
   pub history : after.history.items ≡ before.history.items ++ entry ∷ []
   pub written : new ≡ old ++ full_entry_text l entry
   pub behind : IsLeftBehind (full_entry_text l entry) rest left
-  pub picked : (lists : List (List (ℕ × Step))) → length lists ≤ 16
+  pub picked : (lists : List (List (ℕ × Step))) → length lists ≤ most_scripts
       → AreUnderway lists before.history.items before.pending.items
       → IsPickedEntry m lists before.history.items rest entry
   pub under : (lists : List (List (ℕ × Step))) → AreUnderway lists before.history.items before.pending.items

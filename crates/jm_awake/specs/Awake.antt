@@ -114,7 +114,8 @@ Occupants = ℕ → Option Occupant
 abbrev pub with_slot : Occupants → ℕ → Option Occupant → Occupants
 with_slot o slot x = λ k. cond (k == slot) x (o k)
 
--- A list is found under its letter and the path of its binding, which binds the parameters that are kept for the letter.
+-- A list is found under its letter and the path of its binding, which binds the parameters that are kept for the
+-- letter.
 pub record IsFound (a : Lists) (place : ℕ) (l : SlotList) : Type 0 where
   pub low : l.letter < 32
   pub number : number_at a.rows l.letter (path_of l.binding) ≡ place + 1
@@ -124,8 +125,8 @@ pub record IsFound (a : Lists) (place : ℕ) (l : SlotList) : Type 0 where
 abbrev pub AreFound : Lists → Type 0
 AreFound a = (place : ℕ) → IsKept a place → IsFound a place (list_at a place)
 
--- The entry's monitor lies above the list's binding. It has no dead object if the entry is whole, and its slot is in the
--- lists of the letter, unless the list is loose.
+-- The entry's monitor lies above the list's binding. It has no dead object if the entry is whole, and its slot is in
+-- the lists of the letter, unless the list is loose.
 pub record IsOccupied (loose : Type 0) (o : Occupants) (cards : List Card) (l : SlotList) (x : Listed) : Type 0 where
   pub occupant : Occupant
   pub here : o x.slot ≡ Some occupant
@@ -140,9 +141,9 @@ pub record IsEntry (loose : Type 0) (o : Occupants) (cards : List Card) (l : Slo
   pub aged : x.age ≤ (slice_index_or cards x.slot fresh).age
   pub there : IsThere (slice_index_or cards x.slot fresh) x → IsOccupied loose o cards l x
 
--- The lists are sound for these monitors. A monitor above the binding of a list is in it, if its slot is in the lists of
--- the letter. An entry is of such a monitor, if it still counts, and no list has an entry twice. A slot without a monitor
--- is in no list. The list at one place may be loose: slots may be in it that aren't in the lists of its letter.
+-- The lists are sound for these monitors. A monitor above the binding of a list is in it, if its slot is in the lists
+-- of the letter. An entry is of such a monitor, if it still counts, and no list has an entry twice. A slot without a
+-- monitor is in no list. The list at one place may be loose: slots may be in it that aren't in the lists of its letter.
 pub record AreSoundBut (loose : Option ℕ) (o : Occupants) (a : Lists) : Type 0 where
   pub found : AreFound a
   pub listed : (place k : ℕ) (x : Occupant) → IsKept a place → o k ≡ Some x
@@ -156,8 +157,8 @@ pub record AreSoundBut (loose : Option ℕ) (o : Occupants) (a : Lists) : Type 0
 abbrev pub AreSound : Occupants → Lists → Type 0
 AreSound o a = AreSoundBut None o a
 
--- The list at a place was kept, of the same letter and binding, and each slot but one that was in the lists of the letter
--- is so still.
+-- The list at a place was kept, of the same letter and binding, and each slot but one that was in the lists of the
+-- letter is so still.
 pub record IsStill (but : Option ℕ) (old new : Lists) (place : ℕ) : Type 0 where
   pub kept : IsKept old place
   pub letter : (list_at new place).letter ≡ (list_at old place).letter

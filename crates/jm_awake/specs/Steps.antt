@@ -52,8 +52,8 @@ pub record Takes (a : Lists) (e : ℕ) (instance : Binding) (place : ℕ) : Type
   pub letter : (list_at a place).letter ≡ e
   pub below : is_below (list_at a place).binding instance ≡ true
 
--- The slot, of a monitor of this instance, was put into the lists of a letter: the one that takes it, if it is kept, has
--- the slot. Another list that is kept is as it was.
+-- The slot, of a monitor of this instance, was put into the lists of a letter: the one that takes it, if it is kept,
+-- has the slot. Another list that is kept is as it was.
 pub record IsWokenAt (e slot : ℕ) (instance : Binding) (old new : Lists) : Type 0 where
   pub rows : new.rows ≡ old.rows
   pub letters : new.letters ≡ old.letters

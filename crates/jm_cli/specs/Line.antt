@@ -7,7 +7,7 @@ use Rattle.clap.specs.Simple.{App, Shape, app_of, new_rule, new_shape}
 use Rattle.clap.specs.declared.builder.command.Command.{Command}
 use Rattle.clap.specs.declared.builder.command.Command.TheViews.{out-Command}
 use Rattle.jm_model.specs.Words.{Text}
-use Rattle.jm_cli.specs.Words.{CommandWords, rounds_of}
+use Rattle.jm_cli.specs.Words.{CommandWords, most_names, rounds_of}
 use Rattle.jm_cli.specs.Words.CommandWords.{Replay, Check, Coenable, Gen, Sweep}
 
 -- one value, which has to be there
@@ -17,7 +17,7 @@ value_rule id = record (new_rule id) { required = true }
 -- 1 to 16 names
 abbrev pub names_rule : Rule
 names_rule = record (value_rule (codes "names")) {
-  range = Some (record { start_inclusive = 1; end_inclusive = 16 });
+  range = Some (record { start_inclusive = 1; end_inclusive = most_names });
 }
 
 -- a command of such names, by itself or below another

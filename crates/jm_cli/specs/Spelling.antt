@@ -2,13 +2,13 @@
 use Rattle.std.specs.Prelude.{◌≡◌, ◌≤◌, true, List, [], ◌∷◌, ◌++◌, length, codes, decimal}
 use Rattle.std.specs.List.{list_all}
 use Rattle.jm_model.specs.Words.{Text}
-use Rattle.jm_cli.specs.Words.{CommandWords, is_name}
+use Rattle.jm_cli.specs.Words.{CommandWords, is_name, most_names}
 use Rattle.jm_cli.specs.Words.CommandWords.{Replay, Run, Check, Coenable, Gen, Sweep, Audit}
 
 -- 1 to 16 words, each of which may name a file
 pub record AreNames (words : List Text) : Type 0 where
   pub some : 1 ≤ length words
-  pub few : length words ≤ 16
+  pub few : length words ≤ most_names
   pub each : list_all is_name words ≡ true
 
 abbrev pub Spells : List Text → CommandWords → Type 0

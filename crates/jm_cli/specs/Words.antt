@@ -22,9 +22,13 @@ pub data CommandWords : Type 0 where
 abbrev pub is_name : Text → Bool
 is_name word = not (starts_with nat_eq word (codes "-"))
 
+-- so many names there may be
+abbrev pub most_names : ℕ
+most_names = 16
+
 -- 1 to 16 names
 abbrev pub are_names : List Text → Bool
-are_names words = nat_lt 0 (length words) && nat_le (length words) 16 && list_all is_name words
+are_names words = nat_lt 0 (length words) && nat_le (length words) most_names && list_all is_name words
 
 -- the words, where they are these
 abbrev pub names_of : List Text → Option (List Text)

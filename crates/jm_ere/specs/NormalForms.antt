@@ -10,6 +10,8 @@ use Rattle.jm_model.specs.declared.fault.SpecFault.TheVariants.{TooMany}
 use Rattle.jm_table.specs.Graphs.{GraphMeaning}
 use Rattle.jm_ere.specs.declared.tree.Operator.{Operator}
 use Rattle.jm_ere.specs.declared.tree.Operator.TheVariants.{Or, And}
+use Rattle.jm_ere.specs.declared.sizes.Standing.{Standing}
+use Rattle.jm_ere.specs.declared.sizes.Standing.TheVariants.{Inside, Apart}
 use Rattle.jm_ere.specs.Expressions.{Expression, Symbol, EmptyWord, NoWord, Complement, Star, Plus, Product, Combination}
 
 -- ---- one fixed order
@@ -152,6 +154,11 @@ infixl 10 ◌>>=◌
 abbrev pub ◌>>=◌ : Formed → (Expression → Formed) → Formed
 Ok r >>= f = f r
 Err fault >>= f = Err fault
+
+-- the part stands inside a run that is made at once
+abbrev pub is_inside : Standing → Bool
+is_inside Inside = true
+is_inside Apart = false
 
 -- What is made of a part is a part itself and has to fit, unless the part is inside a run that is made at once.
 abbrev pub part : Bool → Formed → Formed

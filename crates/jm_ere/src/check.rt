@@ -15,7 +15,7 @@ pub(crate) fn check_nodes(nodes: &[Node]) -> Result<(), SpecError>
 {
     if nodes.len() > MAX_FORMULA_NODES {
         let what = Counted::Nodes;
-        return Err(SpecError::Bad(SpecFault::TooMany { what }));
+        return Err(SpecFault::TooMany { what }.into());
     }
     Ok(())
 }

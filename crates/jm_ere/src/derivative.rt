@@ -8,7 +8,7 @@ ghost use Rattle.jm_ere.specs.NormalForms.{derivative_run, derivative};
 use crate::forms::{copy, repeated};
 use crate::order::{is_nullable, is_run};
 use crate::parts::{combined_parts, complement_of_part, product_of_parts, star_of_part};
-use crate::sizes::{fitting, part};
+use crate::sizes::{Standing, fitting, inside_if, part};
 use crate::tree::{Operator, Tree};
 use jm_model::{Letter, SpecError};
 use std::alloc::Global;
@@ -30,27 +30,33 @@ fn derivative_run(alloc: Global, tree: &Tree, letter: Letter) -> Result<Tree, Sp
         Tree::Letter(other) => Ok(of_letter(*other, letter)),
         Tree::Epsilon => Ok(Tree::Empty),
         Tree::Empty => Ok(Tree::Empty),
-        Tree::Not(r) => complement_of_part(alloc, part(false, derivative_run(alloc, r, letter))),
+        Tree::Not(r) => complement_of_part(
+            alloc,
+            part(Standing::Apart, derivative_run(alloc, r, letter)),
+        ),
         Tree::Star(r) => {
-            let first = part(false, derivative_run(alloc, r, letter));
+            let first = part(Standing::Apart, derivative_run(alloc, r, letter));
             product_of_parts(alloc, first, repeated(alloc, r))
         }
         Tree::Plus(r) => {
-            let first = part(false, derivative_run(alloc, r, letter));
+            let first = part(Standing::Apart, derivative_run(alloc, r, letter));
             product_of_parts(alloc, first, star_of_part(alloc, copy(alloc, r)))
         }
         Tree::Then(r, s) => {
-            let first = part(false, derivative_run(alloc, r, letter));
+            let first = part(Standing::Apart, derivative_run(alloc, r, letter));
             let front = product_of_parts(alloc, first, copy(alloc, s));
             if !is_nullable(r) {
                 return front;
             }
-            let second = part(false, derivative_run(alloc, s, letter));
-            combined_parts(alloc, Operator::Or, part(false, front), second)
+            let second = part(Standing::Apart, derivative_run(alloc, s, letter));
+            combined_parts(alloc, Operator::Or, part(Standing::Apart, front), second)
         }
         Tree::Combined(operator, r, s) => {
-            let first = part(false, derivative_run(alloc, r, letter));
-            let rest = part(is_run(*operator, s), derivative_run(alloc, s, letter));
+            let first = part(Standing::Apart, derivative_run(alloc, r, letter));
+            let rest = part(
+                inside_if(is_run(*operator, s)),
+                derivative_run(alloc, s, letter),
+            );
             combined_parts(alloc, *operator, first, rest)
         }
     }

@@ -313,7 +313,7 @@ impl Parser {
 fn syntax(line: u32) -> SpecError
     ensures { IsSyntax result }
 {
-    SpecError::Bad(SpecFault::Syntax { line })
+    SpecFault::Syntax { line }.into()
 }
 
 /// Writes `~` the given number of times.

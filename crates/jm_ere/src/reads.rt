@@ -8,7 +8,7 @@ use crate::resolve::expression_of;
 use crate::tree::Ere;
 use jm_events::EventTable;
 use jm_model::SpecError;
-use jm_reading::few_nested;
+use jm_reading::check_nesting;
 use jm_text::Token;
 use std::alloc::Global;
 
@@ -31,7 +31,7 @@ pub fn read(
     ensures ok { IfOk result (IsReadFrom bytes.now tokens.now table.now) }
     ensures err { IfErr result (IsRefused bytes.now tokens.now table.now) }
 {
-    few_nested(bytes, tokens)?;
+    check_nesting(bytes, tokens)?;
     let nodes = parse(alloc, bytes, tokens, line)?;
     expression_of(alloc, bytes, nodes.as_slice(), table)
 }

@@ -2,7 +2,7 @@
 ghost use Rattle.std.specs.Prelude.{◌≡◌, ◌+◌, ◌<◌, ◌≤◌, IfSome, IfNone, if◌then◌else◌};
 ghost use Rattle.jm_table.specs.Graphs.{Answers};
 ghost use Rattle.jm_ere.specs.Trees.{expression_of};
-ghost use Rattle.jm_ere.specs.NormalForms.{Formed, size_of, fitting, part};
+ghost use Rattle.jm_ere.specs.NormalForms.{Formed, size_of, fitting, is_inside, part};
 
 use crate::order::is_run;
 use crate::tree::Tree;
@@ -51,16 +51,39 @@ pub(crate) fn fitting(tree: Tree) -> Result<Tree, SpecError>
 {
     match room_after(&tree, MAX_NODES) {
         Some(_) => Ok(tree),
-        None => Err(SpecError::Bad(SpecFault::TooMany {
-            what: Counted::Term,
-        })),
+        None => {
+            let what = Counted::Term;
+            Err(SpecFault::TooMany { what }.into())
+        }
+    }
+}
+
+/// How a part stands to a run that is made at once.
+#[derive(Clone, Copy)]
+pub(crate) enum Standing {
+    Inside,
+    Apart,
+}
+
+/// How a part stands that is itself a run of the kind that is made, or isn't.
+pub(crate) fn inside_if(is_run: bool) -> Standing
+    ensures { is_inside result ≡ is_run }
+{
+    if is_run {
+        Standing::Inside
+    } else {
+        Standing::Apart
     }
 }
 
 /// A part, which has to fit unless it is inside a run that is made at once.
-pub(crate) fn part(inside: bool, formed: Result<Tree, SpecError>) -> Result<Tree, SpecError>
-    ensures { (r : Formed) → Answers expression_of r formed → Answers expression_of (part inside r) result }
+pub(crate) fn part(standing: Standing, formed: Result<Tree, SpecError>) -> Result<Tree, SpecError>
+    ensures { (r : Formed) → Answers expression_of r formed →
+        Answers expression_of (part (is_inside standing) r) result }
 {
     let tree = formed?;
-    if inside { Ok(tree) } else { fitting(tree) }
+    match standing {
+        Standing::Inside => Ok(tree),
+        Standing::Apart => fitting(tree),
+    }
 }

@@ -7,7 +7,7 @@ ghost use Rattle.jm_ere.specs.NormalForms.{Formed, ◌>>=◌ as ◌>>>◌, fitti
 use crate::forms::{copy, product_of, star_of};
 use crate::order::{is_product, is_run};
 use crate::parts::{combined_parts, complement_of_part, product_of_parts, star_of_part};
-use crate::sizes::{fitting, part};
+use crate::sizes::{Standing, fitting, inside_if, part};
 use crate::tree::Tree;
 use jm_model::SpecError;
 use std::alloc::Global;
@@ -30,17 +30,17 @@ fn normal_run(alloc: Global, tree: &Tree) -> Result<Tree, SpecError>
         Tree::Letter(letter) => Ok(Tree::Letter(*letter)),
         Tree::Epsilon => Ok(Tree::Epsilon),
         Tree::Empty => Ok(Tree::Empty),
-        Tree::Not(r) => complement_of_part(alloc, part(false, normal_run(alloc, r))),
-        Tree::Star(r) => star_of_part(alloc, part(false, normal_run(alloc, r))),
-        Tree::Plus(r) => repeat_of_part(alloc, part(false, normal_run(alloc, r))),
+        Tree::Not(r) => complement_of_part(alloc, part(Standing::Apart, normal_run(alloc, r))),
+        Tree::Star(r) => star_of_part(alloc, part(Standing::Apart, normal_run(alloc, r))),
+        Tree::Plus(r) => repeat_of_part(alloc, part(Standing::Apart, normal_run(alloc, r))),
         Tree::Then(r, s) => {
-            let first = part(is_product(r), normal_run(alloc, r));
-            let rest = part(is_product(s), normal_run(alloc, s));
+            let first = part(inside_if(is_product(r)), normal_run(alloc, r));
+            let rest = part(inside_if(is_product(s)), normal_run(alloc, s));
             product_of_parts(alloc, first, rest)
         }
         Tree::Combined(operator, r, s) => {
-            let first = part(is_run(*operator, r), normal_run(alloc, r));
-            let rest = part(is_run(*operator, s), normal_run(alloc, s));
+            let first = part(inside_if(is_run(*operator, r)), normal_run(alloc, r));
+            let rest = part(inside_if(is_run(*operator, s)), normal_run(alloc, s));
             combined_parts(alloc, *operator, first, rest)
         }
     }

@@ -85,7 +85,7 @@ impl EventTable {
         ensures err { OnErr result (self.new ≡ self.old) }
     {
         if let Some(fault) = self.parameter_fault(name, line) {
-            return Err(SpecError::Bad(fault));
+            return Err(fault.into());
         }
         let number = self.params.append(name)?;
         Ok(number as u8)
@@ -160,7 +160,7 @@ impl EventTable {
         let row = self.row(letter);
         if row.mask != said.mask {
             let line = said.line;
-            return Err(SpecError::Bad(SpecFault::DuplicateEvent { line }));
+            return Err(SpecFault::DuplicateEvent { line }.into());
         }
         let creation = row.creation | said.creation;
         set_row(&mut self.rows, letter, Row { creation, ..row });
@@ -183,7 +183,7 @@ impl EventTable {
     {
         if self.letters() == MAX_EVENTS {
             let what = Counted::Events;
-            return Err(SpecError::Bad(SpecFault::TooMany { what }));
+            return Err(SpecFault::TooMany { what }.into());
         }
         self.rows.reserve(1)?;
         let number = self.events.append(name)?;

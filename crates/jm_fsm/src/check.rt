@@ -24,7 +24,7 @@ pub fn check_aliases(parts: &[Part]) -> Result<(), SpecError>
 {
     if parts.iter().filter(|part| part.is_alias()).count() > MAX_ALIASES {
         let what = Counted::Aliases;
-        return Err(SpecError::Bad(SpecFault::TooMany { what }));
+        return Err(SpecFault::TooMany { what }.into());
     }
     Ok(())
 }
@@ -34,7 +34,7 @@ pub fn check_states(parts: &[Part]) -> Result<(), SpecError>
     ensures { Checks result (states_fault parts.now) }
 {
     if parts.iter().filter(|part| part.is_state()).count() > MAX_STATES {
-        return Err(SpecError::Bad(SpecFault::TooManyStates));
+        return Err(SpecFault::TooManyStates.into());
     }
     Ok(())
 }
@@ -64,7 +64,7 @@ pub fn check_part_names(bytes: &[u8], parts: &[Part]) -> Result<(), SpecError>
         let name = part.name_token();
         if is_reserved(name_of(bytes, name)) {
             let line = name.line;
-            return Err(SpecError::Bad(SpecFault::ReservedName { line }));
+            return Err(SpecFault::ReservedName { line }.into());
         }
     }
     Ok(())
@@ -87,7 +87,7 @@ pub fn check_duplicate_states(alloc: Global, bytes: &[u8], parts: &[Part]) -> Re
         let name = name_of(bytes, token);
         if is_among(&names, name) {
             let line = token.line;
-            return Err(SpecError::Bad(SpecFault::DuplicateState { line }));
+            return Err(SpecFault::DuplicateState { line }.into());
         }
         add_name(&mut names, name)?;
     }
@@ -129,7 +129,7 @@ fn new_transition(
             let name = name_of(bytes, event);
             if is_among(events, name) {
                 let line = event.line;
-                return Err(SpecError::Bad(SpecFault::DuplicateTransition { line }));
+                return Err(SpecFault::DuplicateTransition { line }.into());
             }
             add_name(events, name)?;
             Ok(fallen)
@@ -137,14 +137,14 @@ fn new_transition(
         TransitionText::Fallback { word, .. } => {
             if fallen {
                 let line = word.line;
-                return Err(SpecError::Bad(SpecFault::DuplicateTransition { line }));
+                return Err(SpecFault::DuplicateTransition { line }.into());
             }
             Ok(true)
         }
     }
 }
 
-fn part_transitions(alloc: Global, bytes: &[u8], part: &Part) -> Result<(), SpecError>
+fn check_part_transitions(alloc: Global, bytes: &[u8], part: &Part) -> Result<(), SpecError>
     ensures { Checks result (part_transitions_fault bytes.now part.now) }
 {
     match part {
@@ -164,7 +164,7 @@ pub fn check_duplicate_transitions(
     ensures { Checks result (transitions_fault bytes.now parts.now) }
 {
     for part in parts {
-        part_transitions(alloc, bytes, part)?;
+        check_part_transitions(alloc, bytes, part)?;
     }
     Ok(())
 }

@@ -38,7 +38,7 @@ impl<'a> Resolver<'a> {
             Some(number) => Ok(Destination::State(number as u16)),
             None => {
                 let line = token.line;
-                Err(SpecError::Bad(SpecFault::UnknownName { line }))
+                Err(SpecFault::UnknownName { line }.into())
             }
         }
     }

@@ -59,7 +59,7 @@ pub fn check_nonterminals(
 {
     if known.len() > most_nonterminals(suffix) {
         let what = Counted::Nonterminals;
-        return Err(SpecError::Bad(SpecFault::TooMany { what }));
+        return Err(SpecFault::TooMany { what }.into());
     }
     Ok(())
 }
@@ -73,7 +73,7 @@ pub fn check_productions(parts: &[Part]) -> Result<(), SpecError>
         let more = part.alternatives.as_slice().len();
         if more > MAX_PRODUCTIONS - count {
             let what = Counted::Productions;
-            return Err(SpecError::Bad(SpecFault::TooMany { what }));
+            return Err(SpecFault::TooMany { what }.into());
         }
         count += more;
     }
@@ -139,7 +139,7 @@ pub fn check_symbols(bytes: &[u8], parts: &[Part]) -> Result<(), SpecError>
 {
     if is_any_long(bytes, parts) {
         let what = Counted::Symbols;
-        return Err(SpecError::Bad(SpecFault::TooMany { what }));
+        return Err(SpecFault::TooMany { what }.into());
     }
     Ok(())
 }
@@ -151,7 +151,7 @@ pub fn check_left_names(bytes: &[u8], parts: &[Part]) -> Result<(), SpecError>
     for part in parts {
         if is_epsilon(name_of(bytes, part.left)) {
             let line = part.left.line;
-            return Err(SpecError::Bad(SpecFault::ReservedName { line }));
+            return Err(SpecFault::ReservedName { line }.into());
         }
     }
     Ok(())
@@ -171,7 +171,7 @@ pub fn check_clashes(bytes: &[u8], table: &EventTable, parts: &[Part]) -> Result
     for part in parts {
         if is_event(table, name_of(bytes, part.left)) {
             let line = part.left.line;
-            return Err(SpecError::Bad(SpecFault::NameClash { line }));
+            return Err(SpecFault::NameClash { line }.into());
         }
     }
     Ok(())

@@ -31,7 +31,7 @@ impl<'a> Resolver<'a> {
             Some(number) => Ok(number as u8),
             None => {
                 let line = token.line;
-                Err(SpecError::Bad(SpecFault::UnknownName { line }))
+                Err(SpecFault::UnknownName { line }.into())
             }
         }
     }

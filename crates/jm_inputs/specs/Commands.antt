@@ -1,7 +1,7 @@
 -- What a command reads.
 use Rattle.std.specs.Prelude.{ℕ, ◌≤◌, Bool, true, false, not, List, [], ◌∷◌, length, map}
 use Rattle.jm_model.specs.Words.{Text}
-use Rattle.jm_cli.specs.Words.{CommandWords}
+use Rattle.jm_cli.specs.Words.{CommandWords, most_names}
 use Rattle.jm_cli.specs.Words.CommandWords.{Replay, Run, Check, Coenable, Gen, Sweep, Audit}
 use Rattle.jm_gen.specs.Specifications.{unsafe_iter, has_next}
 use Rattle.jm_gen.specs.Scripts.{IsInRange, script_text}
@@ -86,7 +86,7 @@ needs_families _ = false
 
 -- 1 to 16 names
 abbrev pub AreFew : List Text → Type 0
-AreFew names = (1 ≤ length names) × (length names ≤ 16)
+AreFew names = (1 ≤ length names) × (length names ≤ most_names)
 
 -- a command within its limits
 abbrev pub IsWithin : CommandWords → Type 0

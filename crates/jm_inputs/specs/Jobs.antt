@@ -57,8 +57,8 @@ module _ (words : List Text) (contents : FileContents) where
         → command_of words ≡ Some command
         → IsHistorySound contents command
         → SaySpecifications contents (needs_families command) [] (spec_sources command) specs
-        → AreScriptsUpTo contents (heeds_order command) specs (steps_before command) (script_sources command) number source
-        before names
+        → AreScriptsUpTo contents (heeds_order command) specs (steps_before command) (script_sources command) number
+        source before names
         → Gives contents source bytes
         → IsScriptFileFault (heeds_order command) specs (steps_before command + step_count before) names bytes fault
         → reads_recording command ≡ false
@@ -119,8 +119,8 @@ module _ (words : List Text) (contents : FileContents) where
         → command_of words ≡ Some command
         → IsHistorySound contents command
         → SaySpecifications contents (needs_families command) [] (spec_sources command) specs
-        → AreScriptsUpTo contents (heeds_order command) specs (steps_before command) (script_sources command) number file
-        before names
+        → AreScriptsUpTo contents (heeds_order command) specs (steps_before command) (script_sources command) number
+        file before names
         → IsFile file
         → ReachesFile ((files_before command + length (spec_sources command)) + number)
 

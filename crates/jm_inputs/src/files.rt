@@ -32,8 +32,8 @@ pub fn load<F: Folder>(
 }
 
 /// Lets the bytes of a file go, after most of them were given back. Where a large piece of memory is freed at once, the
-/// C library takes it that large pieces come and go: those that grow later are moved about on its heap then, which costs
-/// a fifth of all memory.
+/// C library takes it that large pieces come and go: those that grow later are moved about on its heap then, which
+/// costs a fifth of all memory.
 pub fn let_go(mut bytes: Vec<u8>) {
     bytes.truncate(1);
     let _ = bytes.shrink_to_fit();

@@ -222,7 +222,7 @@ fn check_families(purpose: Purpose, header: &SpecHeader) -> Result<(), SpecError
     match purpose {
         Purpose::Rules => Ok(()),
         Purpose::Families => match header.grammar_line {
-            Some(line) => Err(SpecError::Bad(SpecFault::UnsupportedLogic { line })),
+            Some(line) => Err(SpecFault::UnsupportedLogic { line }.into()),
             None => Ok(()),
         },
     }

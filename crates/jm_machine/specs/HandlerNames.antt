@@ -12,8 +12,8 @@ abbrev pub numbered_from : ℕ → List (List Text) → List Text
 numbered_from j [] = []
 numbered_from j (cs ∷ rest) = map (numbered j) cs ++ numbered_from (j + 1) rest
 
--- The names of the handlers for these categories, a list for each property: the categories themselves where there is one
--- property, else with the property's number before them.
+-- The names of the handlers for these categories, a list for each property: the categories themselves where there is
+-- one property, else with the property's number before them.
 abbrev pub names_for : List (List Text) → List Text
 names_for (cs ∷ []) = cs
 names_for all = numbered_from 0 all

@@ -11,6 +11,7 @@ use Rattle.jm_text.specs.declared.token.Token.{Token}
 use Rattle.jm_text.specs.Texts.{is_word}
 use Rattle.jm_reading.specs.Tokens.{name_of}
 use Rattle.jm_reading.specs.Faults.{or_else}
+use Rattle.jm_goal.specs.Goals.{most_handlers}
 use Rattle.jm_spec.specs.declared.property.HandlerText.{HandlerText}
 use Rattle.jm_spec.specs.declared.tree.Logic.{Logic}
 use Rattle.jm_spec.specs.declared.tree.Logic.TheVariants.{Fsm, Ere, Cfg, Ptltl}
@@ -28,7 +29,7 @@ handlers_in [] = 0
 handlers_in (p ∷ ps) = length p.handlers + handlers_in ps
 
 abbrev pub count_fault : List PropertyFacts → Option SpecFault
-count_fault ps = if nat_le (handlers_in ps) 16 then None else Some (TooMany Handlers)
+count_fault ps = if nat_le (handlers_in ps) most_handlers then None else Some (TooMany Handlers)
 
 -- the fault of the first property that has one
 abbrev pub first_fault : (PropertyFacts → Option SpecFault) → List PropertyFacts → Option SpecFault

@@ -20,8 +20,8 @@ use Rattle.jm_machine.specs.CompiledProperties.{may_begin}
 -- ---- of a table
 
 -- For each state the handlers that it hits, the letters that leave it as it is, and those that end an instance, each as
--- a mask; the letters that end an instance of the empty word; what is needed; and by letter and state the state to which
--- a plain move leads.
+-- a mask; the letters that end an instance of the empty word; what is needed; and by letter and state the state to
+-- which a plain move leads.
 pub record StateFacts : Type 0 where
   pub hits : List ℕ
   pub idle : List ℕ
@@ -59,8 +59,8 @@ module _ (t : Transitions) (hits : List ℕ) where
     pub goes_on : (u : Transitions) (g : GoalDefinition) (v : EventDefinitions) → AreNeedsOf u g v needs
         → IsAlive (IsNeededFrom u g v reached) 0
 
-  -- What stands in the row of the letter for the state is so: the state that it leads to, if that is another one, or that
-  -- it leaves the state as it is.
+  -- What stands in the row of the letter for the state is so: the state that it leads to, if that is another one, or
+  -- that it leaves the state as it is.
   pub record IsPlainEntry (goal : GoalDefinition) (needs : NeedSets) (e state entry : ℕ) : Type 0 where
     pub moves : entry ≢ no_number → entry ≢ at_rest → IsPlainState goal needs e state entry
     pub rests : entry ≡ at_rest → IsPlainState goal needs e state state

@@ -9,8 +9,8 @@ use Rattle.jm_machine.specs.declared.formula.Formula.{Formula}
 use Rattle.jm_machine.specs.Formulas.{is_grammar}
 use Rattle.jm_machine.specs.PropertyMeanings.{PropertyRules, Runs, is_failing_grammar, creation_letters, must_bind_of}
 
--- A property: its formula; the name of the category that each of its handlers is for; and the handlers that reset it, by
--- their numbers among its own.
+-- A property: its formula; the name of the category that each of its handlers is for; and the handlers that reset it,
+-- by their numbers among its own.
 pub record PropertyDefinition : Type 0 where
   pub formula : Formula
   pub handlers : List Text

@@ -4,6 +4,7 @@ use Rattle.jm_model.specs.Words.{Text}
 use Rattle.jm_model.specs.declared.fault.SpecFault.{SpecFault}
 use Rattle.jm_text.specs.declared.token.Token.{Token}
 use Rattle.jm_events.specs.Events.{EventDefinitions}
+use Rattle.jm_goal.specs.Goals.{most_handlers}
 use Rattle.jm_spec.specs.Trees.{PropertyFacts}
 use Rattle.jm_machine.specs.declared.formula.Formula.{Formula}
 use Rattle.jm_machine.specs.Formulas.{category_names}
@@ -20,7 +21,7 @@ earlier_of (Some fault) later = if nat_le (step_of_fault fault) (step_of_fault l
 module _ (bytes : Text) (full_binding : Bool) (tokens : List Token) where
   -- the handlers of a property that has this formula are few, and no step of them has a fault
   pub record IsHandled (p : PropertyFacts) (formula : Formula) : Type 0 where
-    pub few : length p.handlers ≤ 16
+    pub few : length p.handlers ≤ most_handlers
     pub distinct : duplicate_fault bytes [] p.handlers ≡ None
     pub known : category_fault bytes (category_names formula) p.handlers ≡ None
     pub bound : binding_fault bytes full_binding tokens p.handlers ≡ None

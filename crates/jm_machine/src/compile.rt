@@ -48,7 +48,7 @@ pub(crate) fn read_formulas(
     }
     match first {
         None => Ok(formulas),
-        Some(fault) => Err(SpecError::Bad(fault)),
+        Some(fault) => Err(fault.into()),
     }
 }
 
@@ -106,8 +106,8 @@ fn step_of(fault: SpecFault) -> u8
     }
 }
 
-/// The properties of a tree that have these formulas, and handlers without a fault. The fault is that of the first table
-/// that has one.
+/// The properties of a tree that have these formulas, and handlers without a fault. The fault is that of the first
+/// table that has one.
 pub(crate) fn compile_formulas(
     alloc: Global,
     bytes: &[u8],

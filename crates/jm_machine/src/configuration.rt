@@ -3,8 +3,8 @@ use crate::place::Place;
 
 /// Where a word leads in the rules, which is a place of each property. It takes 16 bytes.
 ///
-/// A configuration stands for words by `IsConfigurationOf`. One that stands for no word, as a state of a table where the
-/// rules have several properties, may be answered anything.
+/// A configuration stands for words by `IsConfigurationOf`. One that stands for no word, as a state of a table where
+/// the rules have several properties, may be answered anything.
 #[derive(Drop)]
 pub enum Configuration {
     /// The configuration of the empty word.

@@ -153,7 +153,8 @@ fn runs_regular(alloc: Global, expression: &Ere, events: &EventTable) -> Result<
     ensures engine { IfOk result (IsEngineOf events.now.events (Formula.Regular expression.now)) }
     ensures settled { IfOk result (λ _. (fault : SpecFault) →
         IsTableFault (Formula.Regular expression.now) (length events.now.events) fault → ⊥) }
-    ensures err { IfErr result (λ e. IfBad e (IsTableFault (Formula.Regular expression.now) (length events.now.events))) }
+    ensures err { IfErr result (λ e. IfBad e
+        (IsTableFault (Formula.Regular expression.now) (length events.now.events))) }
 {
     minimal(expression.compile(alloc, events)?)
 }
@@ -163,7 +164,8 @@ fn runs_suffixes(alloc: Global, expression: &Ere, events: &EventTable) -> Result
     ensures engine { IfOk result (IsEngineOf events.now.events (Formula.RegularSuffix expression.now)) }
     ensures settled { IfOk result (λ _. (fault : SpecFault) →
         IsTableFault (Formula.RegularSuffix expression.now) (length events.now.events) fault → ⊥) }
-    ensures err { IfErr result (λ e. IfBad e (IsTableFault (Formula.RegularSuffix expression.now) (length events.now.events))) }
+    ensures err { IfErr result (λ e. IfBad e
+        (IsTableFault (Formula.RegularSuffix expression.now) (length events.now.events))) }
 {
     let changed = suffix_ere(alloc, expression.copy(alloc)?)?;
     minimal(changed.compile(alloc, events)?)

@@ -19,8 +19,9 @@ use std::alloc::Global;
 const MAX_HANDLERS: usize = 16;
 
 /// What is wrong with the handlers of the properties, which have these formulas. Each of these steps is done for all
-/// properties before the next: how many handlers there are, whether two of a property are for one category, whether each
-/// category is one of the handler's own property, and, for full bindings alone, whether a handler resets its property.
+/// properties before the next: how many handlers there are, whether two of a property are for one category, whether
+/// each category is one of the handler's own property, and, for full bindings alone, whether a handler resets its
+/// property.
 #[tactic(auto, unfolding(crate::specs::Handlers::handlers_fault))]
 pub(crate) fn check_handlers(
     alloc: Global,
@@ -51,7 +52,7 @@ fn check_count(properties: &[PropertyTree]) -> Result<(), SpecError>
         let here = property.handlers.len();
         if here > MAX_HANDLERS - count {
             let what = Counted::Handlers;
-            return Err(SpecError::Bad(SpecFault::TooMany { what }));
+            return Err(SpecFault::TooMany { what }.into());
         }
         count += here;
     }
@@ -111,18 +112,22 @@ pub(crate) fn check_suffix(
     ensures { Checks result (suffix_fault bytes.now suffix (map facts_of properties.now)) }
 {
     match suffix {
-        Some(line) => all_take_suffix(bytes, properties, line),
+        Some(line) => check_all_take_suffix(bytes, properties, line),
         None => Ok(()),
     }
 }
 
 /// No property refuses the modifier, which stands on this line.
-fn all_take_suffix(bytes: &[u8], properties: &[PropertyTree], line: u32) -> Result<(), SpecError>
+fn check_all_take_suffix(
+    bytes: &[u8],
+    properties: &[PropertyTree],
+    line: u32,
+) -> Result<(), SpecError>
     ensures { Checks result (suffix_fault bytes.now (Some line) (map facts_of properties.now)) }
 {
     for property in properties {
         if refuses_suffix(bytes, property) {
-            return Err(SpecError::Bad(SpecFault::UnsupportedSuffix { line }));
+            return Err(SpecFault::UnsupportedSuffix { line }.into());
         }
     }
     Ok(())
@@ -169,7 +174,7 @@ pub(crate) fn distinct(
         let name = name_of(bytes, handler.category);
         if names.find(name).is_some() {
             let line = handler.category.line;
-            return Err(SpecError::Bad(SpecFault::DuplicateHandler { line }));
+            return Err(SpecFault::DuplicateHandler { line }.into());
         }
         names.add(name)?;
     }
@@ -187,7 +192,7 @@ fn check_categories(
     for handler in handlers {
         if categories.find(name_of(bytes, handler.category)).is_none() {
             let line = handler.category.line;
-            return Err(SpecError::Bad(SpecFault::UnknownCategory { line }));
+            return Err(SpecFault::UnknownCategory { line }.into());
         }
     }
     Ok(())
@@ -229,7 +234,7 @@ fn check_block_resets(bytes: &[u8], block: &[Token]) -> Result<(), SpecError>
     for token in block {
         if is_word(bytes, *token, b"__RESET") {
             let line = token.line;
-            return Err(SpecError::Bad(SpecFault::ResetWithFullBinding { line }));
+            return Err(SpecFault::ResetWithFullBinding { line }.into());
         }
     }
     Ok(())

@@ -24,13 +24,14 @@ pub fn few_properties()
         → IsFewProperties tree }
 {}
 
-/// One letter more: a word that begins as it may hits the handlers of a property whose category holds of what is left of
-/// the word before its last letter, with that letter. Of the word nothing is left where it hits a handler that resets the
-/// property, and else those letters are.
+/// One letter more: a word that begins as it may hits the handlers of a property whose category holds of what is left
+/// of the word before its last letter, with that letter. Of the word nothing is left where it hits a handler that
+/// resets the property, and else those letters are.
 pub fn one_letter_more()
     ensures hit { (r : RuleDefinition) (j : ℕ) (p : PropertyDefinition) → slice_get r.properties j ≡ Some p
         → (w rest : List ℕ) (e i : ℕ) → i < length p.handlers → IsRest (Resets (rules_about r p)) w rest
-        → IsCreated (rules_meaning r) (w ++ e ∷ []) → IsHit (rules_meaning r) (w ++ e ∷ []) (first_of r.properties j + i)
+        → IsCreated (rules_meaning r) (w ++ e ∷ [])
+        → IsHit (rules_meaning r) (w ++ e ∷ []) (first_of r.properties j + i)
         ↔ IsInCategory (rules_about r p) (rest ++ e ∷ []) i }
     ensures rest { (r : RuleDefinition) (j : ℕ) (p : PropertyDefinition) → slice_get r.properties j ≡ Some p
         → (w rest : List ℕ) (e : ℕ) (after : List ℕ) → IsRest (Resets (rules_about r p)) w rest
@@ -39,8 +40,8 @@ pub fn one_letter_more()
         ⊎ ((IsResetBy r j p (w ++ e ∷ []) → ⊥) × (after ≡ rest ++ e ∷ []))) }
 {}
 
-/// Without resets: where no handler resets a property, a word that isn't empty and begins as it may hits the handlers of
-/// the property whose category holds of it.
+/// Without resets: where no handler resets a property, a word that isn't empty and begins as it may hits the handlers
+/// of the property whose category holds of it.
 pub fn without_resets()
     ensures { (r : RuleDefinition) (j : ℕ) (p : PropertyDefinition) → slice_get r.properties j ≡ Some p
         → (w : List ℕ) (i : ℕ) → i < length p.handlers → p.resets ≡ [] →

@@ -2,9 +2,9 @@
 //! and full bindings, as a monitor.
 //!
 //! `Rules::compile` makes them of the tree of a specification. What they mean stands in `specs`, apart from any table
-//! and any chart: the category of a handler holds by the meaning of its property's logic of what is left of a word since
-//! a handler last reset that property, and a word hits nothing where it is empty or where creation events exist and its
-//! first letter isn't one.
+//! and any chart: the category of a handler holds by the meaning of its property's logic of what is left of a word
+//! since a handler last reset that property, and a word hits nothing where it is empty or where creation events exist
+//! and its first letter isn't one.
 #![tactic(auto)]
 
 mod compile;

@@ -31,8 +31,8 @@ pub(crate) enum PreparedEngine {
 }
 
 impl PreparedEngine {
-    /// The engine with what may still follow, for this goal. `failing` says that the property is a grammar with a handler
-    /// for `fail`.
+    /// The engine with what may still follow, for this goal. `failing` says that the property is a grammar with a
+    /// handler for `fail`.
     pub(crate) fn new(
         alloc: Global,
         engine: Engine,

@@ -30,8 +30,8 @@ use jm_table::Table;
 use std::alloc::Global;
 use std::marker::Model;
 
-/// A property of a specification: the parameters of the events, its formula, the categories that are handled, what it is
-/// run for, and what runs it, with what may still follow. Contracts see it as its `CompiledProperty`.
+/// A property of a specification: the parameters of the events, its formula, the categories that are handled, what it
+/// is run for, and what runs it, with what may still follow. Contracts see it as its `CompiledProperty`.
 pub struct Property {
     masks: Vec<u8>,
     formula: Formula,
@@ -71,7 +71,8 @@ impl Model for Property {
     } };
 
     ghost invariant = { λ r. let d = definition_of r.masks.items r.formula r.handlers r.goal in
-        IsGoalOf r.masks.items r.formula r.handlers r.goal × IsCompiledProperty (record { definition = d; engine = engine_of r.engine })
+        IsGoalOf r.masks.items r.formula r.handlers r.goal
+        × IsCompiledProperty (record { definition = d; engine = engine_of r.engine })
         × IsKnown d r.goal r.engine };
 }
 
@@ -133,7 +134,8 @@ impl Property {
         ensures family { is_grammar self.now.definition.formula ≡ false →
             IfOk result (λ family. IsSomeAnd family
             (λ masks. IsFamily (property_meaning self.now.definition) letter.0 masks.items)) }
-        ensures bounded { IfOk result (λ family. IfSome family (λ masks. (mask : ℕ) → Contains masks.items mask → mask < 256)) }
+        ensures bounded { IfOk result (λ family. IfSome family
+            (λ masks. (mask : ℕ) → Contains masks.items mask → mask < 256)) }
         ensures none { is_grammar self.now.definition.formula ≡ true → IfOk result (λ family. family ≡ None) }
     {
         match &self.engine {

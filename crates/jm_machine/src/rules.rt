@@ -75,11 +75,11 @@ impl Model for Rules {
 impl Rules {
     /// The rules that the tree of these tokens says. A tree that was read has 1 to 16 properties.
     ///
-    /// The fault is the first one of the steps, each of which is done for all properties, in their order, before the next:
-    /// those of the formulas' readers; `TooMany` handlers, past 16 of all properties; `DuplicateHandler`;
+    /// The fault is the first one of the steps, each of which is done for all properties, in their order, before the
+    /// next: those of the formulas' readers; `TooMany` handlers, past 16 of all properties; `DuplicateHandler`;
     /// `UnknownCategory`; `ResetWithFullBinding`, the word `__RESET` in a block where the specification is for full
-    /// bindings alone; `UnsupportedSuffix`, where the modifier `suffix` stands and some property is a state machine or a
-    /// past-time formula, or some handler is for `fail`; and those of the formulas' tables, `TooManyStates` and
+    /// bindings alone; `UnsupportedSuffix`, where the modifier `suffix` stands and some property is a state machine or
+    /// a past-time formula, or some handler is for `fail`; and those of the formulas' tables, `TooManyStates` and
     /// `TooMany` term.
     pub fn compile(
         alloc: Global,
@@ -136,8 +136,8 @@ impl Rules {
         })
     }
 
-    /// The names of the handlers: the categories that they are for, where there is one property, else with the number of
-    /// the handler's property before them, from 1, and a dot.
+    /// The names of the handlers: the categories that they are for, where there is one property, else with the number
+    /// of the handler's property before them, from 1, and a dot.
     pub fn handlers(&self) -> &Names
         ensures { result.now ≡ names_of self.now.definition }
     {
@@ -164,8 +164,8 @@ impl Rules {
         self.others.len() as u8 + 1
     }
 
-    /// The table that runs the property of this number, from 0. No two of its states agree in groups after all words, and
-    /// after a word that isn't empty the groups are the categories that hold of it. There is none for a grammar.
+    /// The table that runs the property of this number, from 0. No two of its states agree in groups after all words,
+    /// and after a word that isn't empty the groups are the categories that hold of it. There is none for a grammar.
     pub fn table(&self, property: u8) -> Option<&Table>
         requires { property < length self.now.definition.properties }
         ensures none { IsNone result ↔ IsSomeAnd (slice_get self.now.definition.properties property)
@@ -182,7 +182,8 @@ impl Rules {
     }
 
     /// The coenable family of a letter: the sets of parameters of the words that lead to a handled category of some
-    /// property from some word that ends in the letter, in rising order. There is none where some property is a grammar.
+    /// property from some word that ends in the letter, in rising order. There is none where some property is a
+    /// grammar.
     pub fn family(&self, letter: Letter) -> Result<Option<Vec<u8>>, NoMemory>
         requires { letter.0 < length self.now.definition.masks }
         ensures family { has_grammar self.now.definition.properties ≡ false →

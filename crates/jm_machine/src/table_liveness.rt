@@ -30,8 +30,8 @@ pub(crate) struct TableLiveness {
     /// The letters that end an instance of the empty word.
     first_ending: u32,
     needs: Needs,
-    /// By letter and state the state to which the letter leads, where that is plain, `AT_REST` where it leaves the state as
-    /// it is, and else `NO_NUMBER`.
+    /// By letter and state the state to which the letter leads, where that is plain, `AT_REST` where it leaves the
+    /// state as it is, and else `NO_NUMBER`.
     plain: Vec<Vec<u16>>,
 }
 
@@ -391,8 +391,8 @@ fn plain_row(
     Ok(row)
 }
 
-/// The state to which a letter leads, where that hits nothing and isn't cut while nothing is dead; `AT_REST`, where that
-/// is the state itself. Else `NO_NUMBER`.
+/// The state to which a letter leads, where that hits nothing and isn't cut while nothing is dead; `AT_REST`, where
+/// that is the state itself. Else `NO_NUMBER`.
 fn plain_state(
     table: &Table,
     goal: &Goal,

@@ -1,6 +1,6 @@
--- How the marks lie in memory: those of one parameter as bits, and the others in a set, whose keys are compared by their
--- masks and objects, with the list of the sets of parameters and a limit of the objects of all beside it, and a row with
--- a spot for each mark of the set.
+-- How the marks lie in memory: those of one parameter as bits, and the others in a set, whose keys are compared by
+-- their masks and objects, with the list of the sets of parameters and a limit of the objects of all beside it, and a
+-- row with a spot for each mark of the set.
 use Rattle.std.specs.Prelude.{◌≡◌, ℕ, ◌+◌, ◌<◌, ◌⊎◌, Bool, false, List, [], Option, Some, Contains, length, slice_index, slice_index_or}
 use Rattle.std.specs.List.{IsDistinct}
 use Rattle.jm_model.specs.declared.binding.Binding.{Binding}

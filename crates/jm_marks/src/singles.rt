@@ -1,4 +1,5 @@
-//! The marks of one parameter: for each object a byte, whose bit p is 1 where the binding of parameter p to it is a mark.
+//! The marks of one parameter: for each object a byte, whose bit p is 1 where the binding of parameter p to it is a
+//! mark.
 ghost use Rattle.std.specs.Prelude.{ℕ, ◌≡◌, ◌≢◌, ◌+◌, ◌*◌, ◌/◌, ◌<◌, ◌↔◌, [], ◌++◌, filter, Contains, IsTrue, IfSome, IfNone, OnOk, false, length, slice_index};
 ghost use Rattle.std.specs.Int.{bit_at};
 ghost use Rattle.jm_model.specs.Bindings.{bound, empty};

@@ -110,9 +110,9 @@ pub trait Monitor: Drop {
     fn renumber(&self, state: &mut Self::State, number: u16)
         ensures { (k : ℕ) → HasNumber self.now state.old k → HasNumber self.now state.new number };
 
-    /// By the number of a state that of the state to which the letter leads, where that hits no handler, and an instance
-    /// of it isn't cut while nothing of it is dead. `AT_REST` stands where this is the state itself, which the letter
-    /// leaves as it is. `NO_NUMBER` says nothing.
+    /// By the number of a state that of the state to which the letter leads, where that hits no handler, and an
+    /// instance of it isn't cut while nothing of it is dead. `AT_REST` stands where this is the state itself, which the
+    /// letter leaves as it is. `NO_NUMBER` says nothing.
     fn plain(&self, letter: Letter) -> &[u16]
         requires { letter.0 < (meaning (definition self.now)).letters }
         ensures moves { (k n : ℕ) → slice_get result.now k ≡ Some n → n ≢ no_number → n ≢ at_rest

@@ -23,7 +23,13 @@ impl Model for MemorySink {
 
     ghost Value = { MemoryText };
 
-    ghost view = { λ s. record { text = s.text.items; step = s.step; fail = s.fail.items; calls = s.calls; faults = s.faults } };
+    ghost view = { λ s. record {
+      text = s.text.items;
+      step = s.step;
+      fail = s.fail.items;
+      calls = s.calls;
+      faults = s.faults;
+    } };
 
     ghost invariant = { λ s. 0 < s.step };
 }

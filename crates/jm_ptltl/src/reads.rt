@@ -8,7 +8,7 @@ use crate::past::Past;
 use crate::resolve::past_of;
 use jm_events::EventTable;
 use jm_model::SpecError;
-use jm_reading::{Cursor, few_nested};
+use jm_reading::{Cursor, check_nesting};
 use jm_text::Token;
 use std::alloc::Global;
 
@@ -30,7 +30,7 @@ pub fn read(
     ensures ok { IfOk result (IsReadFrom bytes.now tokens.now table.now) }
     ensures err { IfErr result (IsRefused bytes.now tokens.now table.now) }
 {
-    few_nested(bytes, tokens)?;
+    check_nesting(bytes, tokens)?;
     let mut cursor = Cursor::new(alloc, bytes, tokens, line);
     let nodes = formula(&mut cursor)?;
     past_of(alloc, bytes, nodes.as_slice(), table)

@@ -62,7 +62,7 @@ pub fn past_of(
 {
     if nodes.len() > MAX_SUBFORMULAS {
         let what = Counted::Subformulas;
-        return Err(SpecError::Bad(SpecFault::TooMany { what }));
+        return Err(SpecFault::TooMany { what }.into());
     }
     check_event_names::<Words>(table)?;
     let said = nodes_of(alloc, bytes, table, nodes)?;

@@ -58,7 +58,7 @@ impl<'a> Cursor<'a> {
         ensures is { IsSyntax result }
         ensures line { result ≡ Bad (Syntax (line_of self.now.last_line self.now.rest.now)) }
     {
-        SpecError::Bad(SpecFault::Syntax { line: self.line() })
+        SpecFault::Syntax { line: self.line() }.into()
     }
 
     /// Whether the token that many tokens ahead is this mark.

@@ -30,7 +30,7 @@ pub fn check_event_names<W: GrammarWords>(table: &EventTable) -> Result<(), Spec
         let letter = Letter(letter);
         if W::is_reserved(table.event_name(letter)) {
             let line = table.event_line(letter);
-            return Err(SpecError::Bad(SpecFault::ReservedName { line }));
+            return Err(SpecFault::ReservedName { line }.into());
         }
     }
     Ok(())
@@ -44,7 +44,7 @@ pub fn letter_of(bytes: &[u8], table: &EventTable, token: Token) -> Result<Lette
         Some(letter) => Ok(letter),
         None => {
             let line = token.line;
-            Err(SpecError::Bad(SpecFault::UnknownName { line }))
+            Err(SpecFault::UnknownName { line }.into())
         }
     }
 }

@@ -28,7 +28,7 @@ fn depth_after(bytes: &[u8], depth: u32, token: Token) -> u32
 }
 
 /// No 65th parenthesis is open at once.
-pub fn few_nested(bytes: &[u8], tokens: &[Token]) -> Result<(), SpecError>
+pub fn check_nesting(bytes: &[u8], tokens: &[Token]) -> Result<(), SpecError>
     requires { LieWithin bytes.now tokens.now }
     ensures ok { OnOk result (is_too_deep bytes.now 0 tokens.now ≡ false) }
     ensures err { OnErr result (is_too_deep bytes.now 0 tokens.now ≡ true) }
@@ -39,7 +39,7 @@ pub fn few_nested(bytes: &[u8], tokens: &[Token]) -> Result<(), SpecError>
         depth = depth_after(bytes, depth, *token);
         if depth > MAX_DEPTH {
             let what = Counted::Nesting;
-            return Err(SpecError::Bad(SpecFault::TooMany { what }));
+            return Err(SpecFault::TooMany { what }.into());
         }
     }
     Ok(())

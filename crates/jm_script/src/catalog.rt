@@ -48,7 +48,7 @@ impl Catalog {
         ensures err { OnErr result (self.new ≡ self.old) }
     {
         if self.names.find(name).is_some() {
-            return Err(SpecError::Bad(SpecFault::DuplicateSpec));
+            return Err(SpecFault::DuplicateSpec.into());
         }
         let number = self.names.len() as u8;
         self.tables.reserve(1)?;

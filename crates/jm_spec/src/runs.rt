@@ -23,7 +23,7 @@ pub fn clause_length(cursor: &Cursor<'_>) -> Result<usize, SpecError>
         }
     }
     let line = cursor.last_line;
-    Err(SpecError::Bad(SpecFault::Syntax { line }))
+    Err(SpecFault::Syntax { line }.into())
 }
 
 /// How many tokens stand up to and with the first `;` or the first block outside brackets.
@@ -37,14 +37,14 @@ pub fn member_length(cursor: &Cursor<'_>) -> Result<usize, SpecError>
     for (i, token) in tokens.iter().enumerate() {
         let sign = without_angles(sign_of(bytes, *token));
         if !brackets.follow(sign)? {
-            return Err(SpecError::Bad(SpecFault::Syntax { line: token.line }));
+            return Err(SpecFault::Syntax { line: token.line }.into());
         }
         if brackets.is_empty() && may_end(sign) {
             return Ok(i + 1);
         }
     }
     let line = cursor.last_line;
-    Err(SpecError::Bad(SpecFault::Syntax { line }))
+    Err(SpecFault::Syntax { line }.into())
 }
 
 /// Whether a member may end with the token.
@@ -70,14 +70,14 @@ pub fn parameter_length(cursor: &Cursor<'_>) -> Result<usize, SpecError>
             if brackets.is_empty() {
                 return Ok(i);
             }
-            return Err(SpecError::Bad(SpecFault::Syntax { line: token.line }));
+            return Err(SpecFault::Syntax { line: token.line }.into());
         }
         if !brackets.follow(sign)? {
-            return Err(SpecError::Bad(SpecFault::Syntax { line: token.line }));
+            return Err(SpecFault::Syntax { line: token.line }.into());
         }
     }
     let line = cursor.last_line;
-    Err(SpecError::Bad(SpecFault::Syntax { line }))
+    Err(SpecFault::Syntax { line }.into())
 }
 
 /// Whether a parameter can't go on over the token.
@@ -103,7 +103,7 @@ pub fn formula_length(cursor: &Cursor<'_>) -> Result<usize, SpecError>
         }
     }
     let line = cursor.last_line;
-    Err(SpecError::Bad(SpecFault::Syntax { line }))
+    Err(SpecFault::Syntax { line }.into())
 }
 
 /// Whether a formula ends before the tokens.

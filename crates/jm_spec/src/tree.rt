@@ -84,7 +84,7 @@ fn check_modifiers(modifiers: &[Modifier]) -> Result<(), SpecError>
 {
     for modifier in modifiers {
         if let Modifier::Unsupported(line) = *modifier {
-            return Err(SpecError::Bad(SpecFault::UnsupportedModifier { line }));
+            return Err(SpecFault::UnsupportedModifier { line }.into());
         }
     }
     Ok(())
@@ -125,7 +125,7 @@ fn check_advice(events: &[Mention]) -> Result<(), SpecError>
 {
     for event in events {
         if let Advice::Other(line) = event.advice {
-            return Err(SpecError::Bad(SpecFault::UnsupportedAdvice { line }));
+            return Err(SpecFault::UnsupportedAdvice { line }.into());
         }
     }
     Ok(())
@@ -137,11 +137,11 @@ fn check_property_count(properties: &[Property]) -> Result<(), SpecError>
     ensures bounded { IfOk result (λ _. (0 < length properties.now) × (length properties.now ≤ most_properties)) }
 {
     if properties.is_empty() {
-        return Err(SpecError::Bad(SpecFault::NoProperty));
+        return Err(SpecFault::NoProperty.into());
     }
     if properties.len() > MAX_PROPERTIES {
         let what = Counted::Properties;
-        return Err(SpecError::Bad(SpecFault::TooMany { what }));
+        return Err(SpecFault::TooMany { what }.into());
     }
     Ok(())
 }
@@ -196,7 +196,7 @@ fn known_logic(bytes: &[u8], word: Token) -> Result<Logic, SpecError>
         }
     }
     let line = word.line;
-    Err(SpecError::Bad(SpecFault::UnsupportedLogic { line }))
+    Err(SpecFault::UnsupportedLogic { line }.into())
 }
 
 fn logic_named(name: &str) -> Option<Logic>

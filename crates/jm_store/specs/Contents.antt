@@ -180,8 +180,8 @@ pub record IsPlacedFrom {S : Type 0} (old : Contents S) (first move : Move S) : 
   pub kept : (k : ℕ) → first.slot ≡ Some k → move.slot ≡ Some k
   pub got : (k : ℕ) → first.slot ≡ None → move.slot ≡ Some k → monitor_at old.monitors k ≡ None
 
--- The monitors, the marks and the letters that were kept stay as they are; the index may change, and a plan be opened or
--- given up.
+-- The monitors, the marks and the letters that were kept stay as they are; the index may change, and a plan be opened
+-- or given up.
 pub record KeepsContents {S : Type 0} (old new : Contents S) : Type 0 where
   pub stored : stored_of new ≡ stored_of old
   pub monitors : (k : ℕ) → monitor_at new.monitors k ≡ monitor_at old.monitors k
@@ -200,8 +200,8 @@ pub record StaysClosed {S : Type 0} (old new : Contents S) : Type 0 where
   pub closed : new.is_open ≡ false
   pub fits : (dead : List Bool) → IsFit old dead → IsFit new dead
 
--- The store fits the objects that it fitted, where those of two bindings are among them; and its index does, where those
--- of the second one are.
+-- The store fits the objects that it fitted, where those of two bindings are among them; and its index does, where
+-- those of the second one are.
 pub record StaysFit {S : Type 0} (b t : Binding) (old new : Contents S) : Type 0 where
   pub fits : (dead : List Bool) → IsFit old dead → AreBelow (length dead) b → AreBelow (length dead) t
       → IsFit new dead
@@ -212,8 +212,8 @@ pub record AreReady {S : Type 0} (store : Contents S) (moves : List (Move S)) : 
   pub apart : AreApart moves
   pub leads : ArePlaced store moves
 
--- Where one of the moves has a slot, the index leads to it, and a slot to which the index leads has a monitor, or one of
--- the moves is for it.
+-- Where one of the moves has a slot, the index leads to it, and a slot to which the index leads has a monitor, or one
+-- of the moves is for it.
 pub record ArePending {S : Type 0} (store : Contents S) (moves : List (Move S)) : Type 0 where
   pub leads : ArePlaced store moves
   pub filled : (pair : Pair) → Contains store.index.list pair → IsFilled store pair ⊎ IsPlannedBy moves pair

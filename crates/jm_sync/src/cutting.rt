@@ -11,9 +11,9 @@ use jm_lines::{behind_line, first_words, is_object, is_word, text};
 use jm_model::NoMemory;
 use std::alloc::Global;
 
-/// Takes the lines `post OBJECT` and `wait OBJECT` out of a script, and adds their new names. An empty line stays in the
-/// place of each, so that all other lines keep their numbers. Blanks, a comment and a carriage return at the end of a
-/// line are as in other lines. After NoMemory the names may have new ones at their end.
+/// Takes the lines `post OBJECT` and `wait OBJECT` out of a script, and adds their new names. An empty line stays in
+/// the place of each, so that all other lines keep their numbers. Blanks, a comment and a carriage return at the end of
+/// a line are as in other lines. After NoMemory the names may have new ones at their end.
 pub fn cut(alloc: Global, bytes: &[u8], names: &mut Names) -> Result<Cut, NoMemory>
     requires small { length bytes.now < 2 ^ 32 - 1 }
     requires bounded { length (names_after names.old bytes.now) < 2 ^ 32 }

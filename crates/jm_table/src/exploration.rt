@@ -147,7 +147,7 @@ fn number<G: Graph>(graph: &G, work: &mut Work<G::Node>, node: G::Node) -> Resul
         return Ok(number);
     }
     if work.nodes.len() == MAX_STATES {
-        return Err(SpecError::Bad(SpecFault::TooManyStates));
+        return Err(SpecFault::TooManyStates.into());
     }
     append(graph, work, node)
 }

@@ -22,7 +22,7 @@ pub fn tokens(alloc: Global, bytes: &[u8]) -> Result<Vec<Token>, SpecError>
     ensures open { (line : ℕ) → IsOpenOn bytes.now line → IsErr result }
 {
     if from_utf8(bytes).is_err() {
-        return Err(SpecError::Bad(SpecFault::NotUtf8));
+        return Err(SpecFault::NotUtf8.into());
     }
     cut(alloc, bytes)
 }
@@ -52,7 +52,7 @@ fn cut(alloc: Global, bytes: &[u8]) -> Result<Vec<Token>, SpecError>
                 tokens.push(token)?;
                 start + n
             }
-            Piece::Open => return Err(SpecError::Bad(SpecFault::OpenText { line: line as u32 })),
+            Piece::Open => return Err(SpecFault::OpenText { line: line as u32 }.into()),
         };
         line += line_feeds(&bytes[start..end]);
         start = end;

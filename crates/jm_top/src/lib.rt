@@ -1,8 +1,8 @@
 //! The top call: a command from the words of its command line to its status.
 //!
 //! `jmop` reads the words, loads the files from a folder, does the command, and writes its text to a sink and what went
-//! wrong to another. It knows `replay`, `run`, `check`, `coenable`, `gen`, `sweep` and `audit`, over all four logics and
-//! over scripts of events, deaths and passes.
+//! wrong to another. It knows `replay`, `run`, `check`, `coenable`, `gen`, `sweep` and `audit`, over all four logics
+//! and over scripts of events, deaths and passes.
 //!
 //! What a command is to do stands in `specs`, apart from how it is done: what its words and the contents of its files
 //! ask for or which fault is the first is said by `jm_inputs`, and which texts are those of a command by `Texts.antt`

@@ -19,9 +19,9 @@ use jm_print::render_history;
 use jm_script::Block;
 use std::alloc::Global;
 
-/// The printed history of the one script, replayed over the one specification. The lines of the script are let go as they
-/// are done, and of the core nothing but the rules and the history is left for the printing. A script that can be done in
-/// the order that it asks for has each wait below its post, so it is done line by line.
+/// The printed history of the one script, replayed over the one specification. The lines of the script are let go as
+/// they are done, and of the core nothing but the rules and the history is left for the printing. A script that can be
+/// done in the order that it asks for has each wait below its post, so it is done line by line.
 pub(crate) fn replay(
     alloc: Global,
     spec_set: SpecSet,

@@ -62,5 +62,5 @@ returns-in-Combined t c =
     let first = rw c.deref-in-Combined.ensures at c.derivative_run-in-Combined.ensures in
     let rest = rw c.deref-in-Combined-3.ensures at c.derivative_run-in-Combined-2.ensures in
     let first = c.part-first-in-Combined.ensures _ first in
-    let rest = rw (c.is_run.ensures, c.deref-in-Combined-2.ensures) at (c.part-rest.ensures _ rest) in
+    let rest = rw (c.inside_if.ensures, c.is_run.ensures, c.deref-in-Combined-2.ensures) at (c.part-rest.ensures _ rest) in
     rw c.in-Combined.is (c.combined_parts-in-Combined.ensures _ _ first rest)

@@ -36,8 +36,8 @@ module _ (bytes : List ℕ) (names : List (List ℕ)) (parts : List Part) (i : �
 
 pub returns-then-is_among : goal.returns-then-is_among
 returns-then-is_among c =
-    duplicated c.args.bytes.now c.loop-part.names c.args.parts.now c.loop-part.part-index c.part-item.result c.name_token-token.result c.name_of-name.result.now _ c.loop-part-test.true c.part-item.is
-    c.name_token-token.ensures c.name_of-name.ensures c.loop-part.invariant (sym c.is_among.ensures ∙ c.if-is_among.true)
+    rw c.into.ensures (duplicated c.args.bytes.now c.loop-part.names c.args.parts.now c.loop-part.part-index c.part-item.result c.name_token-token.result c.name_of-name.result.now _ c.loop-part-test.true c.part-item.is
+    c.name_token-token.ensures c.name_of-name.ensures c.loop-part.invariant (sym c.is_among.ensures ∙ c.if-is_among.true))
 
 pub returns-in_err-add_name : goal.returns-in_err-add_name
 returns-in_err-add_name c =

@@ -24,13 +24,13 @@ module _ (bytes : List ℕ) (parts : List Part) (i : ℕ) (part : Part) (whole :
       let step : transitions_fault bytes (part ∷ drop (i + 1) parts) ≡ Some f = rw h refl in
       sym here ∙ step
 
-pub returns-in_err-part_transitions : goal.returns-in_err-part_transitions
-returns-in_err-part_transitions c =
+pub returns-in_err-check_part_transitions : goal.returns-in_err-check_part_transitions
+returns-in_err-check_part_transitions c =
     let p = err_from_is_err_and c.from_residual.result c.from_residual.ensures.1 in
-    rw (p.1, p.2) (refused c.args.bytes.now c.args.parts.now c.loop-part.part-index c.part-item.result _ c.loop-part-test.true c.part-item.is c.loop-part.invariant c.in_err-part_transitions.field-0.0 c.in_err-part_transitions.ensures)
+    rw (p.1, p.2) (refused c.args.bytes.now c.args.parts.now c.loop-part.part-index c.part-item.result _ c.loop-part-test.true c.part-item.is c.loop-part.invariant c.in_err-check_part_transitions.field-0.0 c.in_err-check_part_transitions.ensures)
 
 pub loop-part-preserved : goal.loop-part-preserved
-loop-part-preserved c = goes_on c.args.bytes.now c.args.parts.now c.loop-part.part-index c.part-item.result _ c.loop-part-test.true c.part-item.is c.loop-part.invariant c.in_ok-part_transitions.ensures
+loop-part-preserved c = goes_on c.args.bytes.now c.args.parts.now c.loop-part.part-index c.part-item.result _ c.loop-part-test.true c.part-item.is c.loop-part.invariant c.in_ok-check_part_transitions.ensures
 
 pub returns : goal.returns
 returns c = sym c.loop-part.invariant ∙ at_drop_all (transitions_fault c.args.bytes.now) c.args.parts.now c.loop-part.part-index c.loop-part-test.false

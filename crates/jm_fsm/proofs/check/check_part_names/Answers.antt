@@ -32,8 +32,8 @@ module _ (bytes : List ℕ) (parts : List Part) (i : ℕ) (part : Part) (token :
 
 pub returns-then-is_reserved : goal.returns-then-is_reserved
 returns-then-is_reserved c =
-    reserved c.args.bytes.now c.args.parts.now c.loop-part.part-index c.part-item.result c.name_token-name.result c.name_of.result.now _ c.loop-part-test.true c.part-item.is c.name_token-name.ensures c.name_of.ensures
-    c.loop-part.invariant (sym c.is_reserved.ensures ∙ c.if-is_reserved.true)
+    rw c.into.ensures (reserved c.args.bytes.now c.args.parts.now c.loop-part.part-index c.part-item.result c.name_token-name.result c.name_of.result.now _ c.loop-part-test.true c.part-item.is c.name_token-name.ensures c.name_of.ensures
+    c.loop-part.invariant (sym c.is_reserved.ensures ∙ c.if-is_reserved.true))
 
 pub loop-part-preserved : goal.loop-part-preserved
 loop-part-preserved c =

@@ -15,7 +15,7 @@ few_nodes : (nodes : List (Node Token)) (f : Formula Token) → nodes ≡ postfi
 few_nodes nodes f e few = omega (arith, ap (λ l. length l) e, few)
 
 pub returns-then-nodes-gt-MAX_SUBFORMULAS-clause-checked : goal.returns-then-nodes-gt-MAX_SUBFORMULAS-clause-checked
-returns-then-nodes-gt-MAX_SUBFORMULAS-clause-checked c = λ f e. too_many c.args.bytes.now c.args.table.now f (omega (arith, ap (λ (l : List (Node Token)). length l) e, c.if-nodes-gt-MAX_SUBFORMULAS.true))
+returns-then-nodes-gt-MAX_SUBFORMULAS-clause-checked c = λ f e. rw c.into.ensures (too_many c.args.bytes.now c.args.table.now f (omega (arith, ap (λ (l : List (Node Token)). length l) e, c.if-nodes-gt-MAX_SUBFORMULAS.true)))
 
 pub returns-in_err-check_event_names-clause-checked : goal.returns-in_err-check_event_names-clause-checked
 returns-in_err-check_event_names-clause-checked c = λ f e.

@@ -55,7 +55,7 @@ returns-then-len-eq-MAX_STATES-clause-fault g c =
     let nodes = c.args.work.now.nodes in
     let data_of = g.G.Graph.data_of c.args.graph.now in
     let many : length (map data_of nodes.items) ≡ 1024 = omega (arith, length-map nodes.items data_of, nodes.ok.0, c.len.ensures, c.if-len-eq-MAX_STATES.true) in
-    inr (c.in_default.ensures, rw many refl)
+    rw c.into.ensures (inr (c.in_default.ensures, rw many refl))
 
 pub returns-then-len-eq-MAX_STATES-clause-at_key : goal.returns-then-len-eq-MAX_STATES-clause-at_key
 returns-then-len-eq-MAX_STATES-clause-at_key g c = tt

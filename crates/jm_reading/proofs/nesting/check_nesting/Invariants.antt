@@ -1,6 +1,6 @@
 use Rattle.std.proofs.Common.{◌≡◌, ◌≤◌, drop}
 use Rattle.jm_reading.specs.Nesting.{is_too_deep}
-use Rattle.jm_reading.proofs.nesting.few_nested.Given as goal
+use Rattle.jm_reading.proofs.nesting.check_nesting.Given as goal
 
 abbrev pub invariant-loop-token : goal.invariant-loop-token
 invariant-loop-token l = record {
