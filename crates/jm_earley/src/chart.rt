@@ -1,5 +1,5 @@
 //! Charts and what is asked of them (Earley 1970).
-ghost use Rattle.std.specs.Prelude.{ℕ, ◌≡◌, ◌==◌, ◌<◌, ◌+◌, ◌-◌, ◌↔◌, List, [], ◌∷◌, ◌++◌, Some, None, Any, IsTrue, IfSome, IfOk, map, length, slice_get, if◌then◌else◌};
+ghost use Rattle.std.specs.Prelude.{ℕ, ◌≡◌, ◌==◌, ◌<◌, ◌≤◌, ◌+◌, ◌-◌, ◌↔◌, List, [], ◌∷◌, ◌++◌, Some, None, Any, IsTrue, IfSome, IfOk, map, length, slice_get, if◌then◌else◌};
 ghost use Rattle.jm_grammar.specs.declared.grammar.GrammarSymbol.{GrammarSymbol};
 ghost use Rattle.jm_grammar.specs.Grammars.{IsSmall, IsSmallSymbol, IsSmallProduction};
 ghost use Rattle.jm_grammar.specs.Meanings.{IsWord, Derives, IsHopeless};
@@ -90,6 +90,14 @@ impl Charts {
             nullable,
             dead,
         })
+    }
+
+    /// The parameters of each letter.
+    pub fn params(&self) -> &[u8]
+        ensures value { result.now ≡ self.now.params }
+        ensures bounded { length self.now.params ≤ 32 }
+    {
+        self.params.as_slice()
     }
 
     /// The chart of the empty word.
