@@ -15,12 +15,11 @@ use jm_model::{Letter, NoMemory};
 use std::alloc::Global;
 use std::marker::Model;
 
-/// The charts of a grammar, what its property is run for, and the parameters of its letters.
+/// The charts of a grammar, and what its property is run for.
 #[derive(Clone, Copy)]
 pub(crate) struct Parser<'a> {
     pub(crate) charts: &'a Charts,
     pub(crate) goal: &'a Goal,
-    pub(crate) masks: &'a [u8],
 }
 
 /// The chart of the empty word, the charts of the words of one letter, and whether `fail` is handled. Contracts see it
@@ -89,8 +88,6 @@ impl GrammarLiveness {
     pub(crate) fn is_cut(&self, parser: &Parser, place: &Place, reset: bool, dead: u8) -> bool
         requires begin { IsChartOf parser.now.charts.now [] self.now.begin }
         requires firsts { AreFirstCharts parser.now.charts.now self.now.firsts }
-        requires masks { parser.now.masks.now ≡ parser.now.charts.now.params }
-        requires bounded { length parser.now.masks.now ≤ 32 }
         ensures failing { self.now.failing ≡ true →
             IsTrue result ↔ ((e : ℕ) → IsAvailable parser.now.charts.now.params dead e → ⊥) }
         ensures matching { self.now.failing ≡ false → (word : List ℕ)
@@ -99,7 +96,7 @@ impl GrammarLiveness {
             × CanMatch parser.now.charts.now parser.now.goal.now place.now word dead → ⊥) }
     {
         if self.failing {
-            parser.masks.iter().all(|mask| mask & dead != 0)
+            parser.charts.params().iter().all(|mask| mask & dead != 0)
         } else {
             parser.goal.handlers() == 0 || !self.can_match(parser, place, reset, dead)
         }
@@ -110,8 +107,6 @@ impl GrammarLiveness {
     pub(crate) fn can_match(&self, parser: &Parser, place: &Place, reset: bool, dead: u8) -> bool
         requires begin { IsChartOf parser.now.charts.now [] self.now.begin }
         requires firsts { AreFirstCharts parser.now.charts.now self.now.firsts }
-        requires masks { parser.now.masks.now ≡ parser.now.charts.now.params }
-        requires bounded { length parser.now.masks.now ≤ 32 }
         ensures { (word : List ℕ) → IsLeftOf parser.now.charts.now place.now reset word →
             IsTrue result ↔ CanMatch parser.now.charts.now parser.now.goal.now place.now word dead }
     {
@@ -126,11 +121,9 @@ impl GrammarLiveness {
     /// Whether some word of letters without a dead parameter, which may begin so, is in the language.
     fn can_begin(&self, parser: &Parser, dead: u8) -> bool
         requires firsts { AreFirstCharts parser.now.charts.now self.now.firsts }
-        requires masks { parser.now.masks.now ≡ parser.now.charts.now.params }
-        requires bounded { length parser.now.masks.now ≤ 32 }
         ensures { IsTrue result ↔ ((e : ℕ) × BeginsWith parser.now.charts.now parser.now.goal.now dead e) }
     {
-        for letter in 0..parser.masks.len() as u8 {
+        for letter in 0..parser.charts.params().len() as u8 {
             if self.begins_with(parser, Letter(letter), dead) {
                 return true;
             }
@@ -142,13 +135,12 @@ impl GrammarLiveness {
     /// language.
     fn begins_with(&self, parser: &Parser, letter: Letter, dead: u8) -> bool
         requires firsts { AreFirstCharts parser.now.charts.now self.now.firsts }
-        requires masks { parser.now.masks.now ≡ parser.now.charts.now.params }
-        requires bounded { length parser.now.masks.now ≤ 32 }
-        requires letter { letter.0 < length parser.now.masks.now }
+        requires letter { letter.0 < length parser.now.charts.now.params }
         ensures { IsTrue result ↔ BeginsWith parser.now.charts.now parser.now.goal.now dead letter.0 }
     {
+        let params = parser.charts.params()[letter.0 as usize];
         may_begin(parser.goal, letter)
-            && parser.masks[letter.0 as usize] & dead == 0
+            && params & dead == 0
             && self.goes_on(parser.charts, letter, dead)
     }
 

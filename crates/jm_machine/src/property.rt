@@ -324,7 +324,6 @@ impl Property {
                 let parser = Parser {
                     charts,
                     goal: &self.goal,
-                    masks: self.masks.as_slice(),
                 };
                 liveness.is_cut(&parser, place, reset, dead)
             }
