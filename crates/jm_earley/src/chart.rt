@@ -14,6 +14,7 @@ use crate::continuation::{Continuations, is_hopeless};
 use crate::dead::DeadSets;
 use crate::earley_set::{EarleySet, EarleySets};
 use crate::item::Item;
+use crate::rule::contains;
 use crate::set::ItemSet;
 use jm_events::EventTable;
 use jm_grammar::{Grammar, GrammarSymbol, Production};
@@ -256,7 +257,7 @@ impl Charts {
         requires { n < 64 }
         ensures { IsTrue result ↔ Derives self.now.grammar.productions n [] }
     {
-        self.nullable >> n & 1 == 1
+        contains(self.nullable, n)
     }
 
     fn has_whole(&self, items: &[Item]) -> bool
