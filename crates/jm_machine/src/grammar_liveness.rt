@@ -5,8 +5,9 @@ ghost use Rattle.jm_earley.specs.Charts.{IsChartOf};
 ghost use Rattle.jm_earley.specs.DeadSets.{IsAvailable};
 ghost use Rattle.jm_machine.specs.declared.engine.Engine.TheVariants.{Parses};
 ghost use Rattle.jm_machine.specs.Engines.{IsPlaceOf};
-ghost use Rattle.jm_machine.specs.Liveness.{AreFirstCharts, BeginsWith, GoesOn, IsLeftOf, CanMatch};
+ghost use Rattle.jm_machine.specs.Liveness.{AreFirstCharts, BeginsWith, GoesOn, IsLeftOf, CanMatch, is_coarse};
 
+use crate::cut_rule::CutRule;
 use crate::goal::may_begin;
 use crate::place::Place;
 use jm_earley::{Chart, Charts};
@@ -22,12 +23,12 @@ pub(crate) struct Parser<'a> {
     pub(crate) goal: &'a Goal,
 }
 
-/// The chart of the empty word, the charts of the words of one letter, and whether `fail` is handled. Contracts see it
-/// as its `ParseFacts`.
+/// The chart of the empty word, the charts of the words of one letter, and when an instance is cut. Contracts see it as
+/// its `ParseFacts`.
 pub(crate) struct GrammarLiveness {
     begin: Chart,
     firsts: Vec<Chart>,
-    failing: bool,
+    cut_rule: CutRule,
 }
 
 // Written out, so that a drop is one call.
@@ -36,17 +37,17 @@ impl Drop for GrammarLiveness {
         let GrammarLiveness {
             begin: _,
             firsts: _,
-            failing: _,
+            cut_rule: _,
         } = self;
     }
 }
 
 impl Model for GrammarLiveness {
-    ghost use Rattle.jm_machine.specs.Liveness.{ParseFacts};
+    ghost use Rattle.jm_machine.specs.Liveness.{ParseFacts, is_coarse};
 
     ghost Value = { ParseFacts };
 
-    ghost view = { λ o. record { begin = o.begin; firsts = o.firsts.items; failing = o.failing } };
+    ghost view = { λ o. record { begin = o.begin; firsts = o.firsts.items; coarse = is_coarse o.cut_rule } };
 }
 
 impl GrammarLiveness {
@@ -55,19 +56,19 @@ impl GrammarLiveness {
         alloc: Global,
         charts: &Charts,
         letters: u8,
-        failing: bool,
+        cut_rule: CutRule,
     ) -> Result<GrammarLiveness, NoMemory>
         requires { letters ≡ length charts.now.params }
         ensures begin { IfOk result (λ o. IsChartOf charts.now [] o.begin) }
         ensures firsts { IfOk result (λ o. AreFirstCharts charts.now o.firsts) }
-        ensures failing { IfOk result (λ o. o.failing ≡ failing) }
+        ensures coarse { IfOk result (λ o. o.coarse ≡ is_coarse cut_rule) }
     {
         let begin = charts.begin()?;
         let firsts = first_charts(alloc, charts, &begin, letters)?;
         Ok(GrammarLiveness {
             begin,
             firsts,
-            failing,
+            cut_rule,
         })
     }
 
@@ -88,17 +89,22 @@ impl GrammarLiveness {
     pub(crate) fn is_cut(&self, parser: &Parser, place: &Place, reset: bool, dead: u8) -> bool
         requires begin { IsChartOf parser.now.charts.now [] self.now.begin }
         requires firsts { AreFirstCharts parser.now.charts.now self.now.firsts }
-        ensures failing { self.now.failing ≡ true →
+        ensures coarse { self.now.coarse ≡ true →
             IsTrue result ↔ ((e : ℕ) → IsAvailable parser.now.charts.now.params dead e → ⊥) }
-        ensures matching { self.now.failing ≡ false → (word : List ℕ)
+        ensures exact { self.now.coarse ≡ false → (word : List ℕ)
             → IsLeftOf parser.now.charts.now place.now reset word →
             IsTrue result ↔ ((parser.now.goal.now.groups ≢ [])
             × CanMatch parser.now.charts.now parser.now.goal.now place.now word dead → ⊥) }
     {
-        if self.failing {
-            parser.charts.params().iter().all(|mask| mask & dead != 0)
-        } else {
-            parser.goal.handlers() == 0 || !self.can_match(parser, place, reset, dead)
+        match self.cut_rule {
+            CutRule::Exact => {
+                parser.goal.handlers() == 0 || !self.can_match(parser, place, reset, dead)
+            }
+            CutRule::Coarse => parser
+                .charts
+                .params()
+                .iter()
+                .all(|params| params & dead != 0),
         }
     }
 
