@@ -5,7 +5,7 @@ ghost use Rattle.jm_awake.specs.Awake.{Lists, fresh, list_at, card_at, number_at
 ghost use Rattle.jm_awake.specs.declared.card.Listed.{Listed as Entry};
 ghost use Rattle.jm_awake.specs.Steps.{IsCarded, IsCovered, IsAged, IsUnlisted, HasRoom, IsFewer, Takes, IsWokenAt, IsWoken, IsListedAt, AreListedIn, IsPlaceMade, IsMade};
 
-use crate::card::{Card, Listed, awake_at, without};
+use crate::card::{Card, Listed, awake_at, contains, without};
 use crate::list::AwakeList;
 use crate::path::path_within;
 use jm_model::{Binding, Letter, NoMemory};
@@ -89,7 +89,7 @@ impl Awake {
         ensures within { IfSome result (λ place. place < length self.now.lists) }
         ensures of { IfSome result (λ place. IsListOf (list_at self.now place) letter.0 binding.now) }
     {
-        if (self.letters >> letter.0) % 2 == 0 {
+        if !contains(self.letters, letter.0 as u32) {
             return None;
         }
         self.find_listed(letter.0 as u32, binding)
@@ -335,7 +335,7 @@ impl Awake {
             ⊎ IsListOf (list_at self.new place) letter.0 binding.now }
     {
         let letter = letter.0 as u32;
-        if (self.letters >> letter) % 2 == 1 && self.masks[letter as usize] != binding.mask() {
+        if contains(self.letters, letter) && self.masks[letter as usize] != binding.mask() {
             self.forget();
             return;
         }

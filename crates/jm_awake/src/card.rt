@@ -66,7 +66,7 @@ impl Card {
     pub(crate) fn is_on(&self, letter: u32) -> bool
         ensures { result ≡ (nat_lt letter 32 && (bit_at self.now.letters letter == 1)) }
     {
-        letter < 32 && (self.letters >> letter) % 2 == 1
+        letter < 32 && contains(self.letters, letter)
     }
 
     /// Which of some letters have no list with the slot.
@@ -137,6 +137,15 @@ pub(crate) fn awake_at(letters: u32, resting: u32) -> u32
     ensures all { (e : ℕ) → bit_at letters e ≡ 1 → (bit_at resting e ≡ 1 → ⊥) → bit_at result e ≡ 1 }
 {
     letters & !resting
+}
+
+/// Whether a set of letters has this one.
+#[inline(always)]
+pub(crate) fn contains(letters: u32, letter: u32) -> bool
+    requires { letter < 32 }
+    ensures { result ≡ (bit_at letters letter == 1) }
+{
+    (letters >> letter) % 2 == 1
 }
 
 /// A set of letters without one.

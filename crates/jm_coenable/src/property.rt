@@ -27,7 +27,7 @@ pub(crate) fn is_first(goal: &Goal, letter: Letter) -> bool
     ensures { IsTrue result ↔ IsFirst goal.now letter.0 }
 {
     let creation = goal.creation();
-    creation == 0 || (creation >> letter.0) & 1 == 1
+    creation == 0 || contains(creation, letter.0)
 }
 
 /// The state that a letter leads to: from the start where a handler that resets is hit at the state, and else from the
@@ -69,5 +69,13 @@ fn resets(table: &Table, goal: &Goal, state: u16, handler: u8) -> bool
     ensures { (group : ℕ) → slice_get goal.now.groups handler ≡ Some group →
         result ≡ ((bit_at goal.now.resets handler == 1) && is_in_group table.now state group) }
 {
-    (goal.resets() >> handler) & 1 == 1 && table.in_group(state, goal.group(handler))
+    contains(u32::from(goal.resets()), handler) && table.in_group(state, goal.group(handler))
+}
+
+/// Whether the set, of which bit k stands for number k, has this number.
+fn contains(set: u32, number: u8) -> bool
+    requires { number < 32 }
+    ensures { result ≡ (bit_at set number == 1) }
+{
+    (set >> number) % 2 == 1
 }

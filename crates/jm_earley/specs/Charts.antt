@@ -23,11 +23,12 @@ pub record ChartsDefinition : Type 0 where
 pub record ChartDefinition : Type 0 where
   pub places : List EarleySet
 
--- Each nonterminal spells a word, save perhaps the start; the letters have parameters; and the set is that of the
--- nonterminals that spell the empty word.
+-- Each nonterminal spells a word, save perhaps the start; the letters have parameters, and are 32 at most; and the set
+-- is that of the nonterminals that spell the empty word.
 pub record IsReduced (g : GrammarDefinition) (params : List Mask) (nullable : ℕ) : Type 0 where
   pub spell : (n : ℕ) → IsIn g.productions n → DerivesSome g.productions n
   pub letters : AreBelow g.productions (length params)
+  pub few : length params ≤ 32
   pub empty : (n : ℕ) → IsBitSet nullable n ↔ DerivesOf g.productions 0 n
 
 -- the items of each place that is kept are those of the front of the word up to there

@@ -1,5 +1,5 @@
 //! Charts and what is asked of them (Earley 1970).
-ghost use Rattle.std.specs.Prelude.{ℕ, ◌≡◌, ◌==◌, ◌<◌, ◌+◌, ◌-◌, ◌↔◌, List, [], ◌∷◌, ◌++◌, Some, None, Any, IsTrue, IfSome, IfOk, map, length, slice_get, if◌then◌else◌};
+ghost use Rattle.std.specs.Prelude.{ℕ, ◌≡◌, ◌==◌, ◌<◌, ◌≤◌, ◌+◌, ◌-◌, ◌↔◌, List, [], ◌∷◌, ◌++◌, Some, None, Any, IsTrue, IfSome, IfOk, map, length, slice_get, if◌then◌else◌};
 ghost use Rattle.jm_grammar.specs.declared.grammar.GrammarSymbol.{GrammarSymbol};
 ghost use Rattle.jm_grammar.specs.Grammars.{IsSmall, IsSmallSymbol, IsSmallProduction};
 ghost use Rattle.jm_grammar.specs.Meanings.{IsWord, Derives, IsHopeless};
@@ -14,6 +14,7 @@ use crate::continuation::{Continuations, is_hopeless};
 use crate::dead::DeadSets;
 use crate::earley_set::{EarleySet, EarleySets};
 use crate::item::Item;
+use crate::rule::contains;
 use crate::set::ItemSet;
 use jm_events::EventTable;
 use jm_grammar::{Grammar, GrammarSymbol, Production};
@@ -90,6 +91,14 @@ impl Charts {
             nullable,
             dead,
         })
+    }
+
+    /// The parameters of each letter.
+    pub fn params(&self) -> &[u8]
+        ensures value { result.now ≡ self.now.params }
+        ensures bounded { length self.now.params ≤ 32 }
+    {
+        self.params.as_slice()
     }
 
     /// The chart of the empty word.
@@ -248,7 +257,7 @@ impl Charts {
         requires { n < 64 }
         ensures { IsTrue result ↔ Derives self.now.grammar.productions n [] }
     {
-        self.nullable >> n & 1 == 1
+        contains(self.nullable, n)
     }
 
     fn has_whole(&self, items: &[Item]) -> bool

@@ -10,6 +10,7 @@ ghost use Rattle.jm_earley.specs.AwaitIndex.{AreWaiting, IsStepOver};
 use crate::chart::Charts;
 use crate::earley_set::EarleySets;
 use crate::item::{Item, advanced};
+use crate::rule::contains;
 use crate::set::ItemSet;
 use jm_grammar::GrammarSymbol;
 use jm_model::NoMemory;
@@ -78,7 +79,7 @@ impl Charts {
         ensures all { OnOk result (ArePredicted self.now.grammar place n growth.new.set) }
         ensures predicted { OnOk result (IsPredictedSet self.now.grammar place growth.new.predicted growth.new.set) }
     {
-        if growth.predicted >> n & 1 == 1 {
+        if contains(growth.predicted, n) {
             return Ok(());
         }
         self.begin_productions(&mut growth.set, place, n)?;

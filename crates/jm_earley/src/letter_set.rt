@@ -2,7 +2,7 @@
 ghost use Rattle.std.specs.Prelude.{◌≡◌, IfOk, map};
 ghost use Rattle.jm_earley.specs.LetterSets.{IsExact, is_spelled, are_spelled, is_letter, has_letter, with_nonterminal, nonterminals, can_spell, can_go_on, spelling_rule};
 
-use crate::rule::{Rule, gained, has, no_rule, only};
+use crate::rule::{Rule, contains, gained, has, no_rule, only};
 use jm_grammar::{Grammar, GrammarSymbol, Production};
 use jm_model::NoMemory;
 use std::alloc::Global;
@@ -50,7 +50,7 @@ fn is_spelled(symbol: GrammarSymbol, letters: u32, known: u64) -> bool
     ensures { result ≡ is_spelled letters known symbol }
 {
     match symbol {
-        GrammarSymbol::Letter(letter) => letter.0 < 32 && letters >> letter.0 & 1 == 1,
+        GrammarSymbol::Letter(letter) => letter.0 < 32 && contains(u64::from(letters), letter.0),
         GrammarSymbol::Nonterminal(n) => has(known, n),
     }
 }

@@ -1,5 +1,6 @@
 //! Sets of nonterminals as bits, and rules that add to them until they stay.
-ghost use Rattle.std.specs.Prelude.{ℕ, ◌≡◌, ◌↔◌, IsBitSet};
+ghost use Rattle.std.specs.Prelude.{ℕ, ◌≡◌, ◌<◌, ◌↔◌, IsBitSet};
+ghost use Rattle.jm_grammar.specs.Rounds.{has_bit};
 ghost use Rattle.jm_earley.specs.Rules.{only, has, no_rule, is_met, with_rule, with_rules, IsGained};
 
 /// The set of one nonterminal, which is below 64.
@@ -9,11 +10,20 @@ pub(crate) fn only(n: u8) -> u64
     if n < 64 { 1 << n } else { 0 }
 }
 
+/// Whether a set, of which bit k stands for number k, has this number.
+#[inline(always)]
+pub(crate) fn contains(set: u64, number: u8) -> bool
+    requires { number < 64 }
+    ensures { result ≡ has_bit set number }
+{
+    (set >> number) % 2 == 1
+}
+
 /// Whether a nonterminal is in a set.
 pub(crate) fn has(known: u64, n: u8) -> bool
     ensures { result ≡ has known n }
 {
-    n < 64 && known >> n & 1 == 1
+    n < 64 && contains(known, n)
 }
 
 /// What is gained always, or where one of some nonterminals was gained.

@@ -6,14 +6,22 @@ ghost use Rattle.jm_grammar.specs.Rounds.{has_bit, is_known, are_known, with_pro
 
 use crate::grammar::{Grammar, GrammarSymbol, Production};
 
+/// Whether the set, of which bit k stands for number k, has this number.
+fn contains(set: u64, number: u8) -> bool
+    requires { number < 64 }
+    ensures { result ≡ has_bit set number }
+{
+    (set >> number) % 2 == 1
+}
+
 /// Whether the symbol is one of these letters and nonterminals.
 fn is_known(symbol: GrammarSymbol, letters: u32, known: u64) -> bool
     requires { IsSmallSymbol symbol }
     ensures { result ≡ is_known letters known symbol }
 {
     match symbol {
-        GrammarSymbol::Letter(letter) => letters >> letter.0 & 1 == 1,
-        GrammarSymbol::Nonterminal(n) => known >> n & 1 == 1,
+        GrammarSymbol::Letter(letter) => contains(u64::from(letters), letter.0),
+        GrammarSymbol::Nonterminal(n) => contains(known, n),
     }
 }
 

@@ -267,12 +267,12 @@ module _ (masks : List ℕ) (formula : Formula) (handlers : List (List ℕ)) (go
 
     pub known_parse_cut : (place : Place) (dead : ℕ) (reset cut : Bool)
         → ((x : List ℕ) → x ≢ [] → IsPlaceOf (Parses c) place x → IsTrue reset ↔ Resets d x)
-        → (facts.failing ≡ true → IsTrue cut ↔ ((e : ℕ) → charts.IsAvailable c.params dead e → ⊥))
-        → (facts.failing ≡ false → (word : List ℕ) → IsLeftOf c place reset word → IsTrue cut ↔ ((goal.groups ≢ []) × CanMatch c goal place word dead → ⊥))
+        → (facts.coarse ≡ true → IsTrue cut ↔ ((e : ℕ) → charts.IsAvailable c.params dead e → ⊥))
+        → (facts.coarse ≡ false → (word : List ℕ) → IsLeftOf c place reset word → IsTrue cut ↔ ((goal.groups ≢ []) × CanMatch c goal place word dead → ⊥))
         → (w : List ℕ) → IsPlaceAfter (rules_with (Parses c)) place w → IsTrue cut ↔ IsCutWord m w dead
-    known_parse_cut place dead reset cut says failing matching w h = by_case facts.failing refl
+    known_parse_cut place dead reset cut says failing matching w h = by_case facts.coarse refl
       where
-        by_matching : facts.failing ≡ false → (place : Place) → ((x : List ℕ) → x ≢ [] → IsPlaceOf (Parses c) place x → IsTrue reset ↔ Resets d x)
+        by_matching : facts.coarse ≡ false → (place : Place) → ((x : List ℕ) → x ≢ [] → IsPlaceOf (Parses c) place x → IsTrue reset ↔ Resets d x)
             → ((word : List ℕ) → IsLeftOf c place reset word → IsTrue cut ↔ ((goal.groups ≢ []) × CanMatch c goal place word dead → ⊥)) → IsPlaceAfter (rules_with (Parses c)) place w → IsTrue cut ↔ IsCutWord m w dead
         by_matching is Trap says told h =
             let meant = (cut_words d w dead (sym known.told.2 ∙ is)).0 (λ can. trap_quiet d w dead h.0 h.1 can) in
@@ -287,7 +287,7 @@ module _ (masks : List ℕ) (formula : Formula) (handlers : List (List ℕ)) (go
             let meant = matching_cut d c goal set known.bound (sym known.kind) g.groups listed (sym known.told.2 ∙ is) (Parse chart) w left.0 dead h left.1 left.2 in
             (λ yes. meant.0 ((told left.0 left.3).0 yes), λ is_cut. (told left.0 left.3).1 (meant.1 is_cut))
 
-        by_case : (b : Bool) → facts.failing ≡ b → IsTrue cut ↔ IsCutWord m w dead
+        by_case : (b : Bool) → facts.coarse ≡ b → IsTrue cut ↔ IsCutWord m w dead
         by_case true is =
             let says = failing is in
             let meant = failing_cut d c goal set known.bound (sym known.kind) g.groups listed w dead (sym known.told.2 ∙ is) in

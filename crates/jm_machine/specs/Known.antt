@@ -19,9 +19,9 @@ engine_of (Grammar c facts) = Parses c
 
 -- what may still follow is that of the table, or of the charts
 abbrev pub IsPrepared : GoalDefinition → EventDefinitions → Bool → PreparedEngine → Type 0
-IsPrepared goal events failing (Table t facts) = AreFactsOf t goal events facts
-IsPrepared goal events failing (Grammar c facts) =
-    IsChartOf c [] facts.begin × AreFirstCharts c facts.firsts × (facts.failing ≡ failing)
+IsPrepared goal events coarse (Table t facts) = AreFactsOf t goal events facts
+IsPrepared goal events coarse (Grammar c facts) =
+    IsChartOf c [] facts.begin × AreFirstCharts c facts.firsts × (facts.coarse ≡ coarse)
 
 -- what the rules keep: events of these masks, charts for a grammar alone, and what may still follow
 pub record IsKnown (d : PropertyRules) (goal : GoalDefinition) (engine : PreparedEngine) : Type 0 where

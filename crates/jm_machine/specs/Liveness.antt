@@ -12,6 +12,8 @@ use Rattle.jm_earley.specs.DeadSets.{IsAvailable}
 use Rattle.jm_earley.specs.EarleySets.{IsAliveFor}
 use Rattle.jm_machine.specs.declared.place.Place.{Place}
 use Rattle.jm_machine.specs.declared.place.Place.TheVariants.{Start, State, Parse}
+use Rattle.jm_machine.specs.declared.cut_rule.CutRule.{CutRule}
+use Rattle.jm_machine.specs.declared.cut_rule.CutRule.TheVariants.{Exact, Coarse}
 use Rattle.jm_machine.specs.declared.engine.Engine.{Engine}
 use Rattle.jm_machine.specs.declared.engine.Engine.TheVariants.{States}
 use Rattle.jm_machine.specs.Engines.{IsPlaceOf, EngineHolds}
@@ -104,11 +106,16 @@ CanHitFrom t g v _ dead = ⊥
 
 -- ---- of a grammar
 
--- The chart of the empty word, the charts of the words of one letter, and whether `fail` is handled.
+-- an instance is cut only where each letter has a dead parameter
+abbrev pub is_coarse : CutRule → Bool
+is_coarse Exact = false
+is_coarse Coarse = true
+
+-- The chart of the empty word, the charts of the words of one letter, and whether the rule of cuts is the coarse one.
 pub record ParseFacts : Type 0 where
   pub begin : ChartDefinition
   pub firsts : List ChartDefinition
-  pub failing : Bool
+  pub coarse : Bool
 
 module _ (c : ChartsDefinition) where
   -- chart e is that of the word of letter e alone

@@ -58,5 +58,13 @@ pub(crate) fn may_begin(goal: &Goal, letter: Letter) -> bool
     ensures { IsTrue result ↔ may_begin goal.now letter.0 }
 {
     let creation = goal.creation();
-    creation == 0 || creation & (1 << letter.0) != 0
+    creation == 0 || contains(creation, letter.0)
+}
+
+/// Whether the set, of which bit k stands for number k, has this number.
+pub(crate) fn contains(set: u32, number: u8) -> bool
+    requires { number < 32 }
+    ensures { IsTrue result ↔ IsBitSet set number }
+{
+    (set >> number) % 2 == 1
 }

@@ -5,8 +5,9 @@ ghost use Rattle.jm_earley.specs.Charts.{IsChartOf};
 ghost use Rattle.jm_earley.specs.DeadSets.{IsAvailable};
 ghost use Rattle.jm_machine.specs.declared.engine.Engine.TheVariants.{Parses};
 ghost use Rattle.jm_machine.specs.Engines.{IsPlaceOf};
-ghost use Rattle.jm_machine.specs.Liveness.{AreFirstCharts, BeginsWith, GoesOn, IsLeftOf, CanMatch};
+ghost use Rattle.jm_machine.specs.Liveness.{AreFirstCharts, BeginsWith, GoesOn, IsLeftOf, CanMatch, is_coarse};
 
+use crate::cut_rule::CutRule;
 use crate::goal::may_begin;
 use crate::place::Place;
 use jm_earley::{Chart, Charts};
@@ -15,20 +16,19 @@ use jm_model::{Letter, NoMemory};
 use std::alloc::Global;
 use std::marker::Model;
 
-/// The charts of a grammar, what its property is run for, and the parameters of its letters.
+/// The charts of a grammar, and what its property is run for.
 #[derive(Clone, Copy)]
 pub(crate) struct Parser<'a> {
     pub(crate) charts: &'a Charts,
     pub(crate) goal: &'a Goal,
-    pub(crate) masks: &'a [u8],
 }
 
-/// The chart of the empty word, the charts of the words of one letter, and whether `fail` is handled. Contracts see it
-/// as its `ParseFacts`.
+/// The chart of the empty word, the charts of the words of one letter, and when an instance is cut. Contracts see it as
+/// its `ParseFacts`.
 pub(crate) struct GrammarLiveness {
     begin: Chart,
     firsts: Vec<Chart>,
-    failing: bool,
+    cut_rule: CutRule,
 }
 
 // Written out, so that a drop is one call.
@@ -37,17 +37,17 @@ impl Drop for GrammarLiveness {
         let GrammarLiveness {
             begin: _,
             firsts: _,
-            failing: _,
+            cut_rule: _,
         } = self;
     }
 }
 
 impl Model for GrammarLiveness {
-    ghost use Rattle.jm_machine.specs.Liveness.{ParseFacts};
+    ghost use Rattle.jm_machine.specs.Liveness.{ParseFacts, is_coarse};
 
     ghost Value = { ParseFacts };
 
-    ghost view = { λ o. record { begin = o.begin; firsts = o.firsts.items; failing = o.failing } };
+    ghost view = { λ o. record { begin = o.begin; firsts = o.firsts.items; coarse = is_coarse o.cut_rule } };
 }
 
 impl GrammarLiveness {
@@ -56,19 +56,19 @@ impl GrammarLiveness {
         alloc: Global,
         charts: &Charts,
         letters: u8,
-        failing: bool,
+        cut_rule: CutRule,
     ) -> Result<GrammarLiveness, NoMemory>
         requires { letters ≡ length charts.now.params }
         ensures begin { IfOk result (λ o. IsChartOf charts.now [] o.begin) }
         ensures firsts { IfOk result (λ o. AreFirstCharts charts.now o.firsts) }
-        ensures failing { IfOk result (λ o. o.failing ≡ failing) }
+        ensures coarse { IfOk result (λ o. o.coarse ≡ is_coarse cut_rule) }
     {
         let begin = charts.begin()?;
         let firsts = first_charts(alloc, charts, &begin, letters)?;
         Ok(GrammarLiveness {
             begin,
             firsts,
-            failing,
+            cut_rule,
         })
     }
 
@@ -89,19 +89,22 @@ impl GrammarLiveness {
     pub(crate) fn is_cut(&self, parser: &Parser, place: &Place, reset: bool, dead: u8) -> bool
         requires begin { IsChartOf parser.now.charts.now [] self.now.begin }
         requires firsts { AreFirstCharts parser.now.charts.now self.now.firsts }
-        requires masks { parser.now.masks.now ≡ parser.now.charts.now.params }
-        requires bounded { length parser.now.masks.now ≤ 32 }
-        ensures failing { self.now.failing ≡ true →
+        ensures coarse { self.now.coarse ≡ true →
             IsTrue result ↔ ((e : ℕ) → IsAvailable parser.now.charts.now.params dead e → ⊥) }
-        ensures matching { self.now.failing ≡ false → (word : List ℕ)
+        ensures exact { self.now.coarse ≡ false → (word : List ℕ)
             → IsLeftOf parser.now.charts.now place.now reset word →
             IsTrue result ↔ ((parser.now.goal.now.groups ≢ [])
             × CanMatch parser.now.charts.now parser.now.goal.now place.now word dead → ⊥) }
     {
-        if self.failing {
-            parser.masks.iter().all(|mask| mask & dead != 0)
-        } else {
-            parser.goal.handlers() == 0 || !self.can_match(parser, place, reset, dead)
+        match self.cut_rule {
+            CutRule::Exact => {
+                parser.goal.handlers() == 0 || !self.can_match(parser, place, reset, dead)
+            }
+            CutRule::Coarse => parser
+                .charts
+                .params()
+                .iter()
+                .all(|params| params & dead != 0),
         }
     }
 
@@ -110,8 +113,6 @@ impl GrammarLiveness {
     pub(crate) fn can_match(&self, parser: &Parser, place: &Place, reset: bool, dead: u8) -> bool
         requires begin { IsChartOf parser.now.charts.now [] self.now.begin }
         requires firsts { AreFirstCharts parser.now.charts.now self.now.firsts }
-        requires masks { parser.now.masks.now ≡ parser.now.charts.now.params }
-        requires bounded { length parser.now.masks.now ≤ 32 }
         ensures { (word : List ℕ) → IsLeftOf parser.now.charts.now place.now reset word →
             IsTrue result ↔ CanMatch parser.now.charts.now parser.now.goal.now place.now word dead }
     {
@@ -126,11 +127,9 @@ impl GrammarLiveness {
     /// Whether some word of letters without a dead parameter, which may begin so, is in the language.
     fn can_begin(&self, parser: &Parser, dead: u8) -> bool
         requires firsts { AreFirstCharts parser.now.charts.now self.now.firsts }
-        requires masks { parser.now.masks.now ≡ parser.now.charts.now.params }
-        requires bounded { length parser.now.masks.now ≤ 32 }
         ensures { IsTrue result ↔ ((e : ℕ) × BeginsWith parser.now.charts.now parser.now.goal.now dead e) }
     {
-        for letter in 0..parser.masks.len() as u8 {
+        for letter in 0..parser.charts.params().len() as u8 {
             if self.begins_with(parser, Letter(letter), dead) {
                 return true;
             }
@@ -142,13 +141,12 @@ impl GrammarLiveness {
     /// language.
     fn begins_with(&self, parser: &Parser, letter: Letter, dead: u8) -> bool
         requires firsts { AreFirstCharts parser.now.charts.now self.now.firsts }
-        requires masks { parser.now.masks.now ≡ parser.now.charts.now.params }
-        requires bounded { length parser.now.masks.now ≤ 32 }
-        requires letter { letter.0 < length parser.now.masks.now }
+        requires letter { letter.0 < length parser.now.charts.now.params }
         ensures { IsTrue result ↔ BeginsWith parser.now.charts.now parser.now.goal.now dead letter.0 }
     {
+        let params = parser.charts.params()[letter.0 as usize];
         may_begin(parser.goal, letter)
-            && parser.masks[letter.0 as usize] & dead == 0
+            && params & dead == 0
             && self.goes_on(parser.charts, letter, dead)
     }
 

@@ -9,6 +9,7 @@
 
 mod compile;
 mod configuration;
+mod cut_rule;
 mod engine;
 mod formula;
 mod goal;

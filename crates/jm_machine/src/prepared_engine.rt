@@ -2,8 +2,10 @@
 ghost use Rattle.std.specs.Prelude.{ℕ, ◌≡◌, ◌<◌, ◌++◌, ◌∷◌, [], List, All, IfOk, length};
 ghost use Rattle.jm_table.specs.Tables.{IsTable, next_of};
 ghost use Rattle.jm_machine.specs.Engines.{letters_of_engine, categories_of_engine, IsPlaceOf};
+ghost use Rattle.jm_machine.specs.Liveness.{is_coarse};
 ghost use Rattle.jm_machine.specs.Known.{engine_of, IsPrepared};
 
+use crate::cut_rule::CutRule;
 use crate::engine::Engine;
 use crate::grammar_liveness::GrammarLiveness;
 use crate::place::Place;
@@ -31,19 +33,18 @@ pub(crate) enum PreparedEngine {
 }
 
 impl PreparedEngine {
-    /// The engine with what may still follow, for this goal. `failing` says that the property is a grammar with a
-    /// handler for `fail`.
+    /// The engine with what may still follow, for this goal, and with when an instance is cut.
     pub(crate) fn new(
         alloc: Global,
         engine: Engine,
         goal: &Goal,
         events: &EventTable,
-        failing: bool,
+        cut_rule: CutRule,
     ) -> Result<PreparedEngine, NoMemory>
         requires letters { letters_of_engine engine ≡ length events.now.events }
         requires groups { All (λ group. group < categories_of_engine engine) goal.now.groups }
         ensures engine { IfOk result (λ prepared. engine_of prepared ≡ engine) }
-        ensures liveness { IfOk result (IsPrepared goal.now events.now failing) }
+        ensures liveness { IfOk result (IsPrepared goal.now events.now (is_coarse cut_rule)) }
     {
         match engine {
             Engine::States(table) => {
@@ -51,7 +52,7 @@ impl PreparedEngine {
                 Ok(PreparedEngine::Table { table, liveness })
             }
             Engine::Parses(charts) => {
-                let liveness = GrammarLiveness::new(alloc, &charts, events.letters(), failing)?;
+                let liveness = GrammarLiveness::new(alloc, &charts, events.letters(), cut_rule)?;
                 Ok(PreparedEngine::Grammar { charts, liveness })
             }
         }

@@ -4,6 +4,7 @@ ghost use Rattle.std.specs.List.{list_any};
 ghost use Rattle.std.specs.Str.{bytes_eq};
 ghost use Rattle.jm_table.specs.Minimal.{IsReduced};
 ghost use Rattle.jm_semantics.specs.Families.{IsFamily};
+ghost use Rattle.jm_machine.specs.Liveness.{is_coarse};
 ghost use Rattle.jm_machine.specs.Formulas.{category_names, is_grammar};
 ghost use Rattle.jm_machine.specs.Handlings.{IsHandling};
 ghost use Rattle.jm_machine.specs.PropertyMeanings.{Resets, property_rules_of, property_meaning};
@@ -15,6 +16,7 @@ ghost use Rattle.jm_machine.specs.Engines.{IsPlaceOf, IsEngineOf};
 ghost use Rattle.jm_machine.specs.CompiledProperties.{numbers_of, IsCompiledProperty, IsHandledBy};
 ghost use Rattle.jm_machine.specs.declared.place.Place.TheVariants as place;
 
+use crate::cut_rule::CutRule;
 use crate::engine::Engine;
 use crate::formula::Formula;
 use crate::goal::{goal_of, may_begin};
@@ -95,8 +97,8 @@ impl Property {
     {
         let masks = tree.table.masks(alloc)?;
         let goal = goal_of(alloc, tree, &handling)?;
-        let failing = is_failing(&formula, &handling.handlers);
-        let engine = PreparedEngine::new(alloc, engine, &goal, &tree.table, failing)?;
+        let cut_rule = cut_rule_of(&formula, &handling.handlers);
+        let engine = PreparedEngine::new(alloc, engine, &goal, &tree.table, cut_rule)?;
         Ok(Property {
             masks,
             formula,
@@ -326,7 +328,6 @@ impl Property {
                 let parser = Parser {
                     charts,
                     goal: &self.goal,
-                    masks: self.masks.as_slice(),
                 };
                 liveness.is_cut(&parser, place, reset, dead)
             }
@@ -347,6 +348,17 @@ impl Property {
             }
             _ => 0,
         }
+    }
+}
+
+/// When an instance is cut.
+fn cut_rule_of(formula: &Formula, handlers: &Names) -> CutRule
+    ensures { is_coarse result ≡ (is_grammar formula.now && list_any (bytes_eq (codes "fail")) handlers.now) }
+{
+    if is_failing(formula, handlers) {
+        CutRule::Coarse
+    } else {
+        CutRule::Exact
     }
 }
 

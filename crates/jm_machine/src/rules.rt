@@ -20,6 +20,7 @@ ghost use Rattle.jm_spec.specs.Faults.{most_properties};
 
 use crate::compile::{compile_formulas, read_formulas};
 use crate::configuration::Configuration;
+use crate::goal::contains;
 use crate::handlers::{check_handlers, check_suffix};
 use crate::names::numbered_names;
 use crate::place::Place;
@@ -516,19 +517,11 @@ fn moved(hits: u16, before: u8, count: u8) -> u16
 {
     let mut all = 0;
     for handler in 0..count {
-        if is_bit_set(hits, handler) {
+        if contains(u32::from(hits), handler) {
             all |= 1 << (before + handler);
         }
     }
     all
-}
-
-/// Whether the bit of this number is set.
-fn is_bit_set(bits: u16, number: u8) -> bool
-    requires { number < most_handlers }
-    ensures { IsTrue result ↔ IsBitSet bits number }
-{
-    bits & (1 << number) != 0
 }
 
 impl Monitor for Rules {

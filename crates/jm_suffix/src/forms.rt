@@ -32,7 +32,7 @@ fn can_be_empty(symbol: GrammarSymbol, empty: u64) -> bool
 {
     match symbol {
         GrammarSymbol::Letter(_) => false,
-        GrammarSymbol::Nonterminal(n) => empty >> n & 1 == 1,
+        GrammarSymbol::Nonterminal(n) => (empty >> n) % 2 == 1,
     }
 }
 

@@ -8,7 +8,7 @@ pub(crate) fn answer(alloc: Global, case: &Case) -> Result<String, AllocError> {
         "grammar" | "reduce" | "size" | "suffix" | "productive" => grammar::answer(alloc, case),
         "made" => grammar::made(alloc, case),
         "laws" => laws(alloc),
-        "matches" | "futures" | "crosses" => chart::answer(alloc, case),
+        "matches" | "futures" | "params" | "crosses" => chart::answer(alloc, case),
         "suffix_ere" => suffix_ere::answer(alloc, case),
         "suffix_grammar" => suffix_grammar::answer(alloc, case),
         _ => String::from_str(alloc, "no such verb"),

@@ -9,11 +9,11 @@ use jm_events::EventTable;
 use jm_grammar::{Grammar, GrammarSymbol, Production, read};
 use jm_model::{Letter, NoMemory, SpecError};
 use std::alloc::{AllocError, Global};
-use testkit::{Case, text_of};
+use testkit::{Case, put_number, text_of};
 use testkit_tokens::{or_fault, tokens_of};
 
-/// Which of the words are in the language, `y` or `n` for each (`matches`), what may follow (`futures`), or whether the
-/// empty word is in it and charts may cross threads (`crosses`).
+/// Which of the words are in the language, `y` or `n` for each (`matches`), what may follow (`futures`), the set of
+/// parameters of each letter (`params`), or whether the empty word is in it and charts may cross threads (`crosses`).
 pub(crate) fn answer(alloc: Global, case: &Case) -> Result<String, AllocError> {
     or_fault(alloc, case_text(alloc, case))
 }
@@ -29,6 +29,7 @@ fn formula_text(alloc: Global, case: &Case, events: &EventTable) -> Result<Strin
     match case.verb.as_str() {
         "matches" => matches_text(alloc, &charts, words, events.letters()),
         "futures" => futures_text(alloc, &charts, words, events.letters()),
+        "params" => params_text(alloc, &charts),
         _ => crosses_text(alloc, &charts),
     }
 }
@@ -92,6 +93,16 @@ fn add_marks(out: &mut String, charts: &Charts, chart: &Chart) -> Result<(), All
 
 fn mark(answer: bool) -> char {
     if answer { 'y' } else { 'n' }
+}
+
+fn params_text(alloc: Global, charts: &Charts) -> Result<String, SpecError> {
+    let mut out = String::new(alloc);
+    let mut separator = "";
+    for params in charts.params() {
+        put_number(&mut out, alloc, separator, u16::from(*params))?;
+        separator = " ";
+    }
+    Ok(out)
 }
 
 fn crosses_text(alloc: Global, charts: &Charts) -> Result<String, SpecError> {

@@ -12,6 +12,7 @@ invariant_of-result c =
         spell = c.in_ok-grammar.ensures.spell;
         letters = subst (λ (k : ℕ). AreBelow c.in_ok-grammar.grammar.productions k) (sym count)
             (still_below c.args.grammar.now.productions c.in_ok-grammar.grammar.productions (length c.args.table.now.events) c.in_ok-grammar.ensures.kept c.requires);
+        few = c.in_ok-params.ensures.bounded;
         empty = c.productive-nullable.ensures;
       },
       subst (λ (params : List ℕ). AreDeadSets c.in_ok-grammar.grammar.productions params c.in_ok-dead.dead) c.as_slice.ensures.value c.in_ok-dead.ensures,

@@ -1,11 +1,12 @@
-use Rattle.std.proofs.Common.{ℕ, ◌≡◌, inl, inr, subst}
+use Rattle.std.proofs.Common.{ℕ, ◌≡◌, inl, inr, sym, subst, ◌∙◌}
+use Rattle.jm_grammar.proofs.RoundLemmas.{of_bit}
 use Rattle.jm_earley.specs.Growth.{IsPrediction}
 use Rattle.jm_earley.proofs.GrowthLemmas.{grows_contains}
-use Rattle.jm_earley.proofs.SetLemmas.{bit_from_test, bits_with}
+use Rattle.jm_earley.proofs.SetLemmas.{bits_with}
 use Rattle.jm_earley.proofs.chart.Charts.predict.Goals as goal
 
-pub returns-then-growth-n-eq1-clause-all : goal.returns-then-growth-n-eq1-clause-all
-returns-then-growth-n-eq1-clause-all c = c.requires.predicted c.args.n (bit_from_test c.args.growth.now.predicted c.args.n c.if-growth-n-eq1.true)
+pub returns-then-contains-clause-all : goal.returns-then-contains-clause-all
+returns-then-contains-clause-all c = c.requires.predicted c.args.n (of_bit c.args.growth.now.predicted c.args.n (sym c.contains.ensures ∙ c.if-contains.true))
 
 pub returns-clause-predicted : goal.returns-clause-predicted
 returns-clause-predicted c = λ m bit number p at left.

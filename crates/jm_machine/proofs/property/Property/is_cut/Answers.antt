@@ -17,4 +17,4 @@ returns-in-Grammar c =
     let known = rw c.in-Grammar.is at c.self.invariant.2 in
     rw (← c.self.view_is, c.in-Grammar.is)
     (known_parse_cut i.masks.items i.formula i.handlers i.goal c.self.invariant.0 c.in-Grammar.liveness c.in-Grammar.charts set known c.args.place.now c.args.dead c.is_reset-reset.result c.is_cut.result
-    (rw (← c.self.view_is, c.in-Grammar.is) at c.is_reset-reset.ensures) c.is_cut.ensures.failing c.is_cut.ensures.matching)
+    (rw (← c.self.view_is, c.in-Grammar.is) at c.is_reset-reset.ensures) c.is_cut.ensures.coarse c.is_cut.ensures.exact)

@@ -33,7 +33,7 @@ invariant_of-result c =
         few = c.in_ok-masks.ensures.bytes;
         kind = engine.kind;
         bound = subst (λ masks. HasParams masks (engine_of prepared)) (sym filled) engine.params;
-        told = subst (λ failing. IsPrepared goal t failing prepared) c.is_failing-failing.ensures c.in_ok-engine.ensures.liveness;
+        told = subst (λ coarse. IsPrepared goal t coarse prepared) c.cut_rule_of-cut_rule.ensures c.in_ok-engine.ensures.liveness;
       },
     )
 
