@@ -11,7 +11,7 @@ ghost use Rattle.jm_marks.specs.Marks.{dead_mask_of, is_dead_object};
 ghost use Rattle.jm_store.specs.Slots.{monitors_of, monitor_at};
 ghost use Rattle.jm_store.specs.Moves.{AreNone, AreSifted, IsPushed, IsReadAt};
 ghost use Rattle.jm_store.specs.Walks.{AreRows, AreAliveBut, EndsAll, IsShiftAt, no_turn, AreTurns, EndsLike};
-ghost use Rattle.jm_store.specs.Walks.{AreAmong, AreReadable, AsksAll, CanWalk, IsTold};
+ghost use Rattle.jm_store.specs.Walks.{AreAmong, AreReadable, AsksAll, CanWalk, IsToldByNumber};
 ghost use Rattle.jm_store.specs.declared.walk.Told.TheVariants.{Shifts, Nothing};
 
 use crate::event::Event;
@@ -199,7 +199,7 @@ impl<M: Monitor> Walk<'_, M> {
         requires among { AreAmong self.now.ending.now (mask_of base.now.instance) self.now.ends }
         requires turns { AreTurns self.now.plain.now self.now.ends self.now.endings.now turns.old }
         ensures turns { AreTurns self.now.plain.now self.now.ends self.now.endings.now turns.new }
-        ensures told { IsTold (M.meaning (M.definition self.now.event.now.rules.now)) (M.StandsFor
+        ensures told { IsToldByNumber (M.meaning (M.definition self.now.event.now.rules.now)) (M.StandsFor
             self.now.event.now.rules.now) (M.HasNumber self.now.event.now.rules.now) self.now.event.now.letter.0
             self.now.event.now.objects.now self.now.event.now.binding.now self.now.ending.now asked.letters card.now
             base.now result }
