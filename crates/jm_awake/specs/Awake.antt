@@ -60,9 +60,9 @@ IsOn card letter = bit_at card.letters letter ≡ 1
 abbrev pub IsThere : Card → Listed → Type 0
 IsThere card x = x.age / 2 ≡ card.age / 2
 
--- and no object of it is dead
-abbrev pub IsWhole : Card → Listed → Type 0
-IsWhole card x = x.age ≡ card.age
+-- the slot still has it, and no object of it is dead
+abbrev pub IsThereAlive : Card → Listed → Type 0
+IsThereAlive card x = x.age ≡ card.age
 
 -- an object of the slot's monitor is dead
 abbrev pub IsMourned : Card → Type 0
@@ -125,13 +125,13 @@ pub record IsFound (a : Lists) (place : ℕ) (l : SlotList) : Type 0 where
 abbrev pub AreFound : Lists → Type 0
 AreFound a = (place : ℕ) → IsKept a place → IsFound a place (list_at a place)
 
--- The entry's monitor lies above the list's binding. It has no dead object if the entry is whole, and its slot is in
--- the lists of the letter, unless the list is loose.
+-- The entry's monitor lies above the list's binding. It has no dead object if the entry has the age of its card. Its
+-- slot is in the lists of the letter, unless the list is loose.
 pub record IsOccupied (loose : Type 0) (o : Occupants) (cards : List Card) (l : SlotList) (x : Listed) : Type 0 where
   pub occupant : Occupant
   pub here : o x.slot ≡ Some occupant
   pub below : is_below l.binding occupant.instance ≡ true
-  pub whole : IsWhole (slice_index_or cards x.slot fresh) x → occupant.has_dead ≡ false
+  pub whole : IsThereAlive (slice_index_or cards x.slot fresh) x → occupant.has_dead ≡ false
   pub on : (loose → ⊥) → IsOn (slice_index_or cards x.slot fresh) l.letter
 
 -- an entry of a list has a card that isn't younger; if it still counts, it is as above

@@ -9,7 +9,7 @@ use Rattle.jm_goal.specs.Goals.{GoalDefinition}
 use Rattle.jm_table.specs.Tables.{Transitions, IsTable, IsWord, next_of}
 use Rattle.jm_coenable.specs.Needs.{params_at, params_of, set_at, is_reset, origin_of, step_of, IsHandled, IsHitBy, IsNeededFrom}
 use Rattle.jm_coenable.proofs.SetLemmas.{part_put, part_then}
-use Rattle.jm_coenable.specs.Rounds.{IsPut, IsPart, AreNeeded, IsClosedBelow, IsClosed}
+use Rattle.jm_coenable.specs.Rounds.{IsPut, IsPart, AreNeeded, IsClosedBelow, AreClosedStates}
 
 -- ---- words
 
@@ -107,7 +107,7 @@ module _ (t : Transitions) (g : GoalDefinition) (v : EventDefinitions) (state le
 
 -- ---- complete
 
-pub needs_all : (t : Transitions) (g : GoalDefinition) (v : EventDefinitions) (sets : List (List ℕ)) → IsTable t → IsClosed t g v sets
+pub needs_all : (t : Transitions) (g : GoalDefinition) (v : EventDefinitions) (sets : List (List ℕ)) → IsTable t → AreClosedStates t g v sets
     → (rest : List ℕ) (state first mask : ℕ) → state < t.states → IsHitBy t g v state first rest mask → Contains (set_at sets state) mask
 needs_all t g v sets table closed [] state first mask lt h =
     let here = closed state lt first (word_head t first [] h.letters) in

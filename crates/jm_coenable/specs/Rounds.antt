@@ -49,8 +49,9 @@ IsClosedAt t g v state letter sets = IsClosedBelow t g v state letter 256 sets
 abbrev pub IsClosedState : Transitions → GoalDefinition → EventDefinitions → ℕ → List (List ℕ) → Type 0
 IsClosedState t g v state sets = (letter : ℕ) → letter < t.letters → IsClosedAt t g v state letter sets
 
-abbrev pub IsClosed : Transitions → GoalDefinition → EventDefinitions → List (List ℕ) → Type 0
-IsClosed t g v sets = (state : ℕ) → state < t.states → IsClosedState t g v state sets
+-- each state's set has what is needed there
+abbrev pub AreClosedStates : Transitions → GoalDefinition → EventDefinitions → List (List ℕ) → Type 0
+AreClosedStates t g v sets = (state : ℕ) → state < t.states → IsClosedState t g v state sets
 
 -- ---- last letters
 

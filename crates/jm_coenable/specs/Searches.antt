@@ -5,9 +5,9 @@ use Rattle.jm_goal.specs.Goals.{GoalDefinition}
 use Rattle.jm_table.specs.Tables.{Transitions}
 use Rattle.jm_coenable.specs.Needs.{params_at, set_at, step_of, IsHandled, IsFirst, IsAlive}
 
--- some state has this last letter, and needs this mask
-abbrev pub IsTold : List (List ℕ) → List (List ℕ) → ℕ → ℕ → Type 0
-IsTold arrivals needed letter mask = (state : ℕ) × (state < length needed) × Contains (set_at arrivals state) letter
+-- this mask is needed at some state where a word arrives with this last letter
+abbrev pub IsNeededAtArrival : List (List ℕ) → List (List ℕ) → ℕ → ℕ → Type 0
+IsNeededAtArrival arrivals needed letter mask = (state : ℕ) × (state < length needed) × Contains (set_at arrivals state) letter
     × Contains (set_at needed state) mask
 
 -- the sets of dead parameters at which some mask of the set has none of them
@@ -17,7 +17,7 @@ AreDeadSets needed alive = (dead : ℕ) → Contains alive dead ↔ ((dead < 256
 -- the masks below 256 of the letter
 abbrev pub IsFamilySet : List (List ℕ) → List (List ℕ) → ℕ → List ℕ → Type 0
 IsFamilySet arrivals needed letter family =
-    (mask : ℕ) → Contains family mask ↔ ((mask < 256) × IsTold arrivals needed letter mask)
+    (mask : ℕ) → Contains family mask ↔ ((mask < 256) × IsNeededAtArrival arrivals needed letter mask)
 
 -- the mask is these parameters and those of a mask of the set
 abbrev pub IsJoined : ℕ → List ℕ → ℕ → Type 0

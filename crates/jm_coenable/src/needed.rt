@@ -1,6 +1,6 @@
 ghost use Rattle.std.specs.Prelude.{ℕ, ◌≡◌, ◌<◌, ◌↔◌, Contains, IfOk, length};
 ghost use Rattle.jm_coenable.specs.Needs.{AreFit, IsNeededFrom, set_at};
-ghost use Rattle.jm_coenable.specs.Rounds.{IsPart, AreNeeded, IsClosedAt, IsClosedState, IsClosed};
+ghost use Rattle.jm_coenable.specs.Rounds.{IsPart, AreNeeded, IsClosedAt, IsClosedState, AreClosedStates};
 
 use crate::mask_set::MaskSet;
 use crate::property::{is_handled, step};
@@ -36,7 +36,7 @@ fn go_back(table: &Table, goal: &Goal, events: &EventTable, needed: &mut Vec<Mas
     requires fit { AreFit table.now goal.now events.now }
     requires count { length needed.old.items ≡ table.now.states }
     ensures { IsPart (AreNeeded table.now goal.now events.now)
-        (IsClosed table.now goal.now events.now) needed.old.items needed.new.items result }
+        (AreClosedStates table.now goal.now events.now) needed.old.items needed.new.items result }
 {
     let mut changed = false;
     let states = table.len();

@@ -1,6 +1,6 @@
 ghost use Rattle.std.specs.Prelude.{ℕ, ◌≡◌, ◌<◌, ◌↔◌, true, Contains, IfOk, length};
 ghost use Rattle.jm_coenable.specs.Needs.{set_at};
-ghost use Rattle.jm_coenable.specs.Searches.{IsTold, AreDeadSets, IsFamilySet};
+ghost use Rattle.jm_coenable.specs.Searches.{IsNeededAtArrival, AreDeadSets, IsFamilySet};
 
 use crate::mask_set::MaskSet;
 use jm_model::{Letter, NoMemory};
@@ -27,7 +27,7 @@ pub(crate) fn is_in_family(
     mask: u8,
 ) -> bool
     requires { length arrivals.now ≡ length needed.now }
-    ensures { (result ≡ true) ↔ IsTold arrivals.now needed.now letter.0 mask }
+    ensures { (result ≡ true) ↔ IsNeededAtArrival arrivals.now needed.now letter.0 mask }
 {
     for state in 0..needed.len() {
         if has_both(&arrivals[state], letter.0, &needed[state], mask) {

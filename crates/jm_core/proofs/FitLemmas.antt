@@ -19,7 +19,7 @@ use Rattle.jm_monitors.specs.Steps.{NoneCutAbove, IsAfterPass}
 use Rattle.jm_monitors.proofs.CountLemmas.{cut-from_flags, cut-by_flags}
 use Rattle.jm_monitors.proofs.PassLemmas.{pass_keeps_store-lem}
 use Rattle.jm_store.specs.Contents.{Contents, stored_of}
-use Rattle.jm_core.specs.Cores.{last_of, NoneCut, IsSwept, IsTidyAfter, IsTidy, FitsHistory}
+use Rattle.jm_core.specs.Cores.{last_of, NoneCut, IsMemorySwept, IsTidyAfter, IsTidy, FitsHistory}
 use Rattle.jm_core.specs.Inside.{instances_of, IsCore}
 use Rattle.jm_core.proofs.FlagLemmas.{live-by_flags}
 
@@ -68,7 +68,7 @@ module _ (m : Meaning) where
 
     -- directly after a pass
     pub swept : (h : List Entry) (dead : List Bool) (stored after : List (Stored S)) (marks left : List Binding) → AreFlagsOf h dead → IsStoreOf m Stands (trace_of h) dead stored marks
-        → IsAfterPass m Stands dead stored after marks left → IsSwept m h (instances_of after) left
+        → IsAfterPass m Stands dead stored after marks left → IsMemorySwept m h (instances_of after) left
     swept h dead stored after marks left flags store pass =
         let passed = pass_keeps_store-lem m Stands (trace_of h) dead stored after marks left store pass in
         record {

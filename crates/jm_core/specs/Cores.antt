@@ -55,14 +55,14 @@ abbrev pub NoneCut : Meaning → List Entry → List Binding → Binding → Typ
 NoneCut m h stored b = (t : Binding) → Contains stored t → is_below b t ≡ true → IsCut m h t → ⊥
 
 -- stored are exactly the instances that aren't cut, and marks are exactly the seen bindings with a live object
-pub record IsSwept (m : Meaning) (h : List Entry) (stored marks : List Binding) : Type 0 where
+pub record IsMemorySwept (m : Meaning) (h : List Entry) (stored marks : List Binding) : Type 0 where
   pub exact : (t : Binding) → (Contains stored t ↔ (IsInstance (trace_of h) t × (IsCut m h t → ⊥)))
   pub live : (b : Binding) → (Contains marks b ↔ (Contains (seen_of (trace_of h)) b × (binds_live h b ≡ true)))
 
 -- what holds directly after this step with this outcome
 abbrev pub IsTidyAfter : Meaning → List Entry → List Binding → List Binding → Step → Outcome → Type 0
 IsTidyAfter m h stored marks (Event e b) (Fired firings) = NoneCut m h stored b
-IsTidyAfter m h stored marks Pass (Kept n) = IsSwept m h stored marks
+IsTidyAfter m h stored marks Pass (Kept n) = IsMemorySwept m h stored marks
 IsTidyAfter m h stored marks _ _ = Unit {0}
 
 -- Directly after an event that was answered, no binding above the event's that is stored is cut. Directly after a pass,

@@ -1,6 +1,7 @@
 //! What is live of a core, and what an event comes to there.
 ghost use Rattle.std.specs.Prelude.{◌≡◌, ◌<◌, ◌↔◌, false, None, Contains, IsTrue, length};
 ghost use Rattle.jm_index.specs.Index.{AreBelow, AreLive, IsFitting};
+ghost use Rattle.jm_store.specs.Moves.{is_marked};
 ghost use Rattle.jm_store.specs.Listed.{AreListed, HasList, KeepListed};
 ghost use Rattle.jm_store.specs.Plans.{CanPlan};
 ghost use Rattle.jm_core.specs.Inside.{first_dead_by, CanPerform, Performs};
@@ -8,7 +9,7 @@ ghost use Rattle.jm_core.specs.Inside.{first_dead_by, CanPerform, Performs};
 use jm_awake::Awake;
 use jm_model::{Binding, Firings, Monitor, NoMemory, Outcome, Steps};
 use jm_objects::Objects;
-use jm_store::{Call, Store};
+use jm_store::{Call, MarkStatus, Store};
 use std::alloc::Global;
 use std::sync::ledger::{Blank, Ledger};
 
@@ -46,8 +47,8 @@ impl<M: Monitor> Live<M> {
         if let Some(object) = first_dead(call.objects, call.binding) {
             return (Outcome::Refused(object), Outcome::Refused(object));
         }
-        let known = self.store.is_mark(call.binding);
-        if known {
+        let status = self.store.status_of(call.binding);
+        if status.is_marked() {
             let _letters = call.rules.letters();
             if let Some(place) = self.awake.find(call.letter, call.binding) {
                 if let Some(done) = self
@@ -61,11 +62,11 @@ impl<M: Monitor> Live<M> {
         }
         if let Some(done) = self
             .store
-            .advance_one(call, &mut self.awake, known, &mut steps)
+            .advance_one(call, &mut self.awake, status, &mut steps)
         {
             return (Outcome::Fired(done.answer), Outcome::Fired(done.copy));
         }
-        self.fire(call, known, &mut steps)
+        self.fire(call, status, &mut steps)
     }
 
     /// What an event comes to whose list was found, by a plan.
@@ -106,12 +107,12 @@ impl<M: Monitor> Live<M> {
     fn fire<L: Ledger>(
         &mut self,
         call: &Call<M>,
-        known: bool,
+        status: MarkStatus,
         steps: &mut Steps<L>,
     ) -> (Outcome, Outcome)
         requires can { CanPlan (M.meaning (M.definition call.now.rules.now)) call.now.objects.now call.now.letter.0
             call.now.binding.now self.old.store }
-        requires known { IsTrue known ↔ Contains self.old.store.marks call.now.binding.now }
+        requires known { IsTrue (is_marked status) ↔ Contains self.old.store.marks call.now.binding.now }
         requires live { first_dead_by call.now.objects.now call.now.binding.now ≡ None }
         requires listed { AreListed (M.meaning (M.definition call.now.rules.now)) (M.StandsFor call.now.rules.now)
             call.now.objects.now self.old.store.monitors self.old.awake }
@@ -119,9 +120,9 @@ impl<M: Monitor> Live<M> {
             call.now.objects.now (record { letter = call.now.letter.0; binding = call.now.binding.now })
             self.old.store self.new.store self.old.awake self.new.awake result }
     {
-        match self.store.plan_as(call, known, steps) {
+        match self.store.plan_as(call, status, steps) {
             Ok(plan) => {
-                let listed = known && plan.is_worth_listing();
+                let listed = status.is_marked() && plan.is_worth_listing();
                 self.store.follow(&mut self.awake, &plan);
                 let (answer, copy) = self.store.commit(plan);
                 list_if(call, &self.store, &mut self.awake, listed);

@@ -13,7 +13,7 @@ use Rattle.jm_earley.specs.declared.continuation.Continuation.{Continuation}
 use Rattle.jm_earley.specs.declared.continuation.Continuations.{Continuations}
 use Rattle.jm_earley.specs.declared.earley_set.EarleySet.{EarleySet}
 use Rattle.jm_earley.specs.Items.{IsItemSet}
-use Rattle.jm_earley.specs.Continuations.{IsAlive}
+use Rattle.jm_earley.specs.Continuations.{CanBeContinued}
 use Rattle.jm_earley.specs.LetterSets.{IsExact}
 use Rattle.jm_earley.specs.DeadSets.{IsAvailable, IsLeft, AreDeadSets}
 use Rattle.jm_earley.specs.EarleySets.{IsFuture, AreFutures, AreEarlier, AreEarlierOf, IsFutureOf, IsAliveFor}
@@ -94,7 +94,7 @@ module _ (g : GrammarDefinition) (params word : List ℕ) (sets : DeadSets) (fut
   alive_for number f at e =
       let same : number_is.0 ≡ number = same_some number_is.0 number (slice_get sets.numbers.items dead) number_is.1 at in
       let there : future_is.0 ≡ f = same_some future_is.0 f (slice_get futures.futures.items number) (ap (λ (k : ℕ). slice_get futures.futures.items k) (sym same) ∙ future_is.1) e in
-      let alive : IsTrue f.alive ↔ IsAlive g number_is.2.set.letters word = subst (λ (x : Continuation). IsTrue x.alive ↔ IsAlive g number_is.2.set.letters word) there future_is.2.alive in (
+      let alive : IsTrue f.alive ↔ CanBeContinued g number_is.2.set.letters word = subst (λ (x : Continuation). IsTrue x.alive ↔ CanBeContinued g number_is.2.set.letters word) there future_is.2.alive in (
         λ h. let a = alive.0 h in (a.0, (letters_same a.0).0 a.1, a.2, a.3),
         λ h. alive.1 (h.0, (letters_same h.0).1 h.1, h.2, h.3),
       )

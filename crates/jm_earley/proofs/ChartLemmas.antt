@@ -10,7 +10,7 @@ use Rattle.jm_grammar.specs.Meanings.{IsWord, no_tree, leaf}
 use Rattle.jm_earley.specs.declared.item.Item.{Item}
 use Rattle.jm_earley.specs.declared.earley_set.EarleySet.{EarleySet}
 use Rattle.jm_earley.specs.Items.{IsAwaited, at_start, IsItem, IsItemSet, IsWhole, symbol_after, advanced}
-use Rattle.jm_earley.specs.Kept.{place_at, IsKept, AreBack, AreLinked}
+use Rattle.jm_earley.specs.Kept.{place_at, HasPlaceAt, AreBack, AreLinked}
 use Rattle.jm_earley.specs.EarleySets.{AreEarlier}
 use Rattle.jm_earley.specs.AwaitIndex.{AreWaiting}
 use Rattle.jm_earley.specs.Charts.{ChartsDefinition, ChartDefinition, AreItemSets, IsPlaceOf, IsChartOf, IsChartWith}
@@ -53,10 +53,10 @@ module _ (charts : ChartsDefinition) where
 
   module _ (word : List ℕ) (earlier : List EarleySet) (position : ℕ) (first : List Item) (count : position ≡ length word)
       (each : (k : ℕ) (p : EarleySet) → place_at earlier k ≡ Some p → (k < length word) × IsPlaceOf charts (take k word) p)
-      (closed : (k : ℕ) (p : EarleySet) → place_at earlier k ≡ Some p → (x : Item) → Contains p.items x → IsKept earlier x.origin)
+      (closed : (k : ℕ) (p : EarleySet) → place_at earlier k ≡ Some p → (x : Item) → Contains p.items x → HasPlaceAt earlier x.origin)
       (linked : AreLinked earlier)
       (none : (length earlier ≡ 0) ↔ (length word ≡ 0))
-      (begins : (x : Item) → Contains first x → (x.origin ≡ position) ⊎ IsKept earlier x.origin)
+      (begins : (x : Item) → Contains first x → (x.origin ≡ position) ⊎ HasPlaceAt earlier x.origin)
       (sound : (x : Item) → Contains first x → IsItem g word x)
       (scanned : (before : List ℕ) (a : LetterType) → word ≡ before ++ a.0 ∷ [] → (x : Item) → IsItem g before x → symbol_after g x ≡ Some (Letter a) → Contains first (advanced x))
       (begun : word ≡ [] → ArePredicted g 0 g.start first) where
@@ -73,9 +73,9 @@ module _ (charts : ChartsDefinition) where
     pub chart_follows : (chart : ChartDefinition) → IsChartWith charts earlier position first chart → IsChartOf charts word chart
     chart_follows chart made =
         let items = made.place.items in
-        let from : (x : Item) → Contains items x → (x.origin ≡ position) ⊎ IsKept earlier x.origin =
+        let from : (x : Item) → Contains items x → (x.origin ≡ position) ⊎ HasPlaceAt earlier x.origin =
         λ x there. made_kept g earlier position first closed begins (made.closure.made x there) in
-        let covered : (x : Item) → Contains items x → x.origin < position → IsKept earlier x.origin =
+        let covered : (x : Item) → Contains items x → x.origin < position → HasPlaceAt earlier x.origin =
         λ x there lt. elim (from x there) [ inl here ↦ absurd (omega (arith, lt, here)) | inr old ↦ old ] in
         let exact : IsItemSet g word items = closure_exact g word earlier position first items sets_are count made.closure covered sound scanned begun in
         let are : AreEarlier g charts.letter_sets word earlier = record {
@@ -172,7 +172,7 @@ module _ (charts : ChartsDefinition) where
         ((λ h. absurd (omega (arith, h, within))), (λ h. absurd (omega (arith, h, longer_is))))
         (λ x there.
         let (y, among, after, is) = advances x there in
-        inr (subst (λ (z : Item). IsKept old.places z.origin) (sym is) (of_word.closed (length word) last last_at y among)))
+        inr (subst (λ (z : Item). HasPlaceAt old.places z.origin) (sym is) (of_word.closed (length word) last last_at y among)))
         (λ x there.
         let (y, among, after, is) = advances x there in
         subst (λ (z : Item). IsItem g longer z) (sym is) (item_over g word (letter.0 ∷ []) longer y (Letter letter) ((last_is.items y).0 among) after (leaf letter no_tree) refl))

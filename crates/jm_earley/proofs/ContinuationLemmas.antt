@@ -22,7 +22,7 @@ use Rattle.jm_earley.specs.declared.continuation.Rest.{Rest}
 use Rattle.jm_earley.specs.declared.continuation.Rest.TheVariants.{AnyLength, NotEmpty}
 use Rattle.jm_earley.specs.declared.earley_set.EarleySet.{EarleySet}
 use Rattle.jm_earley.specs.Items.{IsItem, IsItemSet}
-use Rattle.jm_earley.specs.Continuations.{IsRest, at_end, within, IsContinuation, CanEnd, CanGoOn, IsAlive}
+use Rattle.jm_earley.specs.Continuations.{IsRest, at_end, within, IsContinuation, CanEnd, CanGoOn, CanBeContinued}
 use Rattle.jm_earley.specs.Rules.{IsGained, at_once, later}
 use Rattle.jm_earley.specs.LetterSets.{IsExact, can_spell, can_go_on}
 use Rattle.jm_earley.specs.Links.{link_from, link_in, link_of, future_at, is_known, rest_rule, start_rule, rest_rules, keeps_alive_in, keeps_alive}
@@ -369,7 +369,7 @@ module _ (g : GrammarDefinition) (small : IsSmall g.productions g.start) (set : 
     goes_on_with item i behind follows trees rest =
         continued g word (behind ++ follows) item (record { is_item = i; behind = behind; follows = follows; more_is = refl; trees = trees; rest = rest })
 
-    keeps_alive_word : (item : Item) → IsItem g word item → keeps item ≡ true → IsAlive g A word
+    keeps_alive_word : (item : Item) → IsItem g word item → keeps item ≡ true → CanBeContinued g A word
     keeps_alive_word item i h =
         let row = row_of item i in
         let left = i.production.left in
@@ -411,7 +411,7 @@ module _ (g : GrammarDefinition) (small : IsSmall g.productions g.start) (set : 
         ] in
         keeps_is item i ∙ kept
 
-    pub alive_exact : (list_any keeps items ≡ true) ↔ IsAlive g A word
+    pub alive_exact : (list_any keeps items ≡ true) ↔ CanBeContinued g A word
     alive_exact = (
       λ h. let one = Any-from_list_any keeps items h in
           keeps_alive_word one.1 ((all one.1).0 (one.0, one.2, one.3)) one.4,
@@ -434,5 +434,5 @@ module _ (g : GrammarDefinition) (small : IsSmall g.productions g.start) (set : 
       record {
         ends = ends_are;
         more = more_are;
-        alive = subst (λ (b : Bool). (b ≡ true) ↔ IsAlive g A word) (sym alive_is) (alive_exact ends ends_are more more_are);
+        alive = subst (λ (b : Bool). (b ≡ true) ↔ CanBeContinued g A word) (sym alive_is) (alive_exact ends ends_are more more_are);
       }

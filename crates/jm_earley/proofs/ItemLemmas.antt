@@ -15,7 +15,7 @@ use Rattle.jm_earley.specs.declared.item.Item.{Item}
 use Rattle.jm_earley.specs.declared.earley_set.EarleySet.{EarleySet}
 use Rattle.jm_earley.specs.Items.{IsAwaited, at_start, inside, IsItem, IsItemSet, symbol_after, finished_left, advanced, IsWhole}
 use Rattle.jm_earley.specs.Growth.{IsAdvancedOver, IsPrediction, ArePredicted, IsStep, predicts, skips, completes, IsWorked, IsMade, given, stepped, IsClosure}
-use Rattle.jm_earley.specs.Kept.{place_at, IsKept}
+use Rattle.jm_earley.specs.Kept.{place_at, HasPlaceAt}
 use Rattle.jm_earley.specs.Charts.{AreItemSets}
 use Rattle.jm_earley.proofs.PlaceLemmas.{Contains-place, place-Contains, split_at, take_next, place_behind, place_from_drop}
 
@@ -134,7 +134,7 @@ module _ (g : GrammarDefinition) where
     -- ---- each item is reached
 
     module _ (items : List Item) (worked : (x : Item) → Contains items x → IsWorked g kept place items x)
-        (covered : (x : Item) → Contains items x → x.origin < place → IsKept kept x.origin)
+        (covered : (x : Item) → Contains items x → x.origin < place → HasPlaceAt kept x.origin)
         (scanned : (before : List ℕ) (a : LetterType) → word ≡ before ++ a.0 ∷ [] → (x : Item) → IsItem g before x → symbol_after g x ≡ Some (Letter a) → Contains items (advanced x))
         (begun : word ≡ [] → ArePredicted g 0 g.start items) where
       -- an item before symbols that spell the rest of the word is there with all of them before its dot; at once, where they spell nothing
@@ -213,20 +213,20 @@ module _ (g : GrammarDefinition) where
   -- ---- the items of a place
 
   -- an item that is made began here, or at a place that is kept
-  module _ (kept : List EarleySet) (place : ℕ) (first : List Item) (closed : (position : ℕ) (p : EarleySet) → place_at kept position ≡ Some p → (x : Item) → Contains p.items x → IsKept kept x.origin)
-      (begins_kept : (x : Item) → Contains first x → (x.origin ≡ place) ⊎ IsKept kept x.origin) where
-    step_kept : (x made : Item) → (x.origin ≡ place) ⊎ IsKept kept x.origin → IsStep g kept place x made → (made.origin ≡ place) ⊎ IsKept kept made.origin
+  module _ (kept : List EarleySet) (place : ℕ) (first : List Item) (closed : (position : ℕ) (p : EarleySet) → place_at kept position ≡ Some p → (x : Item) → Contains p.items x → HasPlaceAt kept x.origin)
+      (begins_kept : (x : Item) → Contains first x → (x.origin ≡ place) ⊎ HasPlaceAt kept x.origin) where
+    step_kept : (x made : Item) → (x.origin ≡ place) ⊎ HasPlaceAt kept x.origin → IsStep g kept place x made → (made.origin ≡ place) ⊎ HasPlaceAt kept made.origin
     step_kept x made from (predicts n after (number, p, at, left, is)) = inl (ap (λ (y : Item). y.origin) is)
-    step_kept x made from (skips n after empty is) = subst (λ (y : Item). (y.origin ≡ place) ⊎ IsKept kept y.origin) (sym is) from
+    step_kept x made from (skips n after empty is) = subst (λ (y : Item). (y.origin ≡ place) ⊎ HasPlaceAt kept y.origin) (sym is) from
     step_kept x made from (completes n p finished at (y, there, after, is)) =
-        inr (subst (λ (z : Item). IsKept kept z.origin) (sym is) (closed x.origin p at y there))
+        inr (subst (λ (z : Item). HasPlaceAt kept z.origin) (sym is) (closed x.origin p at y there))
 
-    pub made_kept : {x : Item} → IsMade g kept place first x → (x.origin ≡ place) ⊎ IsKept kept x.origin
+    pub made_kept : {x : Item} → IsMade g kept place first x → (x.origin ≡ place) ⊎ HasPlaceAt kept x.origin
     made_kept (given x there) = begins_kept x there
     made_kept (stepped x made before step) = step_kept x made (made_kept before) step
 
   pub closure_exact : (word : List ℕ) (kept : List EarleySet) (place : ℕ) (first items : List Item) → AreItemSets g word kept → place ≡ length word → IsClosure g kept place first items
-      → ((x : Item) → Contains items x → x.origin < place → IsKept kept x.origin)
+      → ((x : Item) → Contains items x → x.origin < place → HasPlaceAt kept x.origin)
       → ((x : Item) → Contains first x → IsItem g word x)
       → ((before : List ℕ) (a : LetterType) → word ≡ before ++ a.0 ∷ [] → (x : Item) → IsItem g before x → symbol_after g x ≡ Some (Letter a) → Contains first (advanced x))
       → (word ≡ [] → ArePredicted g 0 g.start first) → IsItemSet g word items

@@ -5,7 +5,7 @@ use Rattle.std.proofs.lemmas.List.Elements.{Contains-push_cases, Contains-push, 
 use Rattle.std.proofs.lemmas.Option.{same_Some, slice_get_within}
 use Rattle.jm_earley.specs.declared.item.Item.{Item}
 use Rattle.jm_earley.specs.declared.earley_set.EarleySet.{EarleySet}
-use Rattle.jm_earley.specs.Kept.{IsSorted, place_at, IsKept, IsPlaceNumber, AreLinked, IsReach, IsReachTo, IsFollowedBy}
+use Rattle.jm_earley.specs.Kept.{IsSorted, place_at, HasPlaceAt, IsPlaceNumber, AreLinked, IsReach, IsReachTo, IsFollowedBy}
 use Rattle.jm_earley.proofs.PlaceLemmas.{place-Contains, slice_get-append, slice_get-push, slice_get-push_cases, take_next, get-take, take-get}
 use Rattle.jm_earley.proofs.KeptLemmas.{number_at, sorted_at, sorted_push, number_le}
 
@@ -72,11 +72,11 @@ module _ (places : List EarleySet) where
         (subst (λ (l : List EarleySet). IsSorted l) (sym list_is) (sorted_first sorted count))
         (λ q there. let (number, at) = place-Contains list q there in behind number q (old_one number q at).1))
 
-    kept_where : (number : ℕ) (position : ℕ) → number < count → IsPlaceNumber places position number → IsKept new position
+    kept_where : (number : ℕ) (position : ℕ) → number < count → IsPlaceNumber places position number → HasPlaceAt new position
     kept_where number position lt (p, at, here) =
         let in_list : slice_get list number ≡ Some p = ap (λ (l : List EarleySet). slice_get l number) list_is ∙ take-get places count number p lt at in
         let in_new : slice_get new number ≡ Some p = ap (λ (l : List EarleySet). slice_get l number) is ∙ slice_get-append list (place ∷ []) number p in_list in
-        subst (λ (k : ℕ). IsKept new k) here (p, sorted_at new new_sorted number p in_new)
+        subst (λ (k : ℕ). HasPlaceAt new k) here (p, sorted_at new new_sorted number p in_new)
 
     -- each place but the last is one where an item of the next began
     new_linked : AreLinked places → AreLinked new

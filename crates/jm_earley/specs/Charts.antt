@@ -8,7 +8,7 @@ use Rattle.jm_earley.specs.declared.item.Item.{Item}
 use Rattle.jm_earley.specs.declared.letter_set.LetterSet.{LetterSet}
 use Rattle.jm_earley.specs.declared.earley_set.EarleySet.{EarleySet}
 use Rattle.jm_earley.specs.Items.{IsItemSet}
-use Rattle.jm_earley.specs.Kept.{place_at, IsKept, AreLinked, IsFollowedBy}
+use Rattle.jm_earley.specs.Kept.{place_at, HasPlaceAt, AreLinked, IsFollowedBy}
 use Rattle.jm_earley.specs.Growth.{IsClosure}
 use Rattle.jm_earley.specs.AwaitIndex.{IsWaiting}
 use Rattle.jm_earley.specs.EarleySets.{AreFutures, AreEarlier}
@@ -53,7 +53,7 @@ module _ (charts : ChartsDefinition) where
     pub each : (position : ℕ) (p : EarleySet) → place_at chart.places position ≡ Some p → (position ≤ length word)
         × IsPlaceOf (take position word) p
     pub closed : (position : ℕ) (p : EarleySet) → place_at chart.places position ≡ Some p → (x : Item)
-        → Contains p.items x → IsKept chart.places x.origin
+        → Contains p.items x → HasPlaceAt chart.places x.origin
     pub linked : AreLinked chart.places
 
 module _ (charts : ChartsDefinition) (earlier : List EarleySet) (position : ℕ) where

@@ -45,8 +45,8 @@ module _ (g : GrammarDefinition) (letters : ℕ) (word : Word) where
   CanGoOn n = (rest : Word) × All (IsBitSet letters) rest × IsRest g.productions g.start word n rest × (rest ≢ [])
 
   -- some word of one or more of these letters, put after the word, gives a word of the grammar
-  abbrev pub IsAlive : Type 0
-  IsAlive = (more : Word) × All (IsBitSet letters) more × IsWord g (word ++ more) × (more ≢ [])
+  abbrev pub CanBeContinued : Type 0
+  CanBeContinued = (more : Word) × All (IsBitSet letters) more × IsWord g (word ++ more) × (more ≢ [])
 
 -- the nonterminal spells some word of one or more of these letters
 abbrev pub DerivesLetters : List Production → ℕ → ℕ → Type 0

@@ -10,7 +10,7 @@ use Rattle.jm_earley.specs.declared.continuation.Continuations.{Continuations}
 use Rattle.jm_earley.specs.declared.earley_set.EarleySet.{EarleySet}
 use Rattle.jm_earley.specs.Items.{IsItem, IsItemSet}
 use Rattle.jm_earley.specs.Kept.{place_at}
-use Rattle.jm_earley.specs.Continuations.{CanEnd, CanGoOn, IsAlive}
+use Rattle.jm_earley.specs.Continuations.{CanEnd, CanGoOn, CanBeContinued}
 use Rattle.jm_earley.specs.LetterSets.{IsExact}
 use Rattle.jm_earley.specs.DeadSets.{IsAvailable}
 use Rattle.jm_earley.specs.Links.{future_at}
@@ -20,7 +20,7 @@ module _ (g : GrammarDefinition) where
   pub record IsFuture (letters : ℕ) (word : Word) (f : Continuation) : Type 0 where
     pub ends : (n : ℕ) → IsBitSet f.ends n ↔ CanEnd g letters word n
     pub more : (n : ℕ) → IsBitSet f.more n ↔ CanGoOn g letters word n
-    pub alive : IsTrue f.alive ↔ IsAlive g letters word
+    pub alive : IsTrue f.alive ↔ CanBeContinued g letters word
 
   -- what may follow the word, of the letters of each set
   abbrev pub AreFutures : List LetterSet → Word → Continuations → Type 0

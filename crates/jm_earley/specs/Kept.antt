@@ -15,8 +15,8 @@ module _ (places : List EarleySet) where
       → p.position < q.position
 
   -- a place at the position is there
-  abbrev pub IsKept : ℕ → Type 0
-  IsKept position = (p : EarleySet) × (place_at places position ≡ Some p)
+  abbrev pub HasPlaceAt : ℕ → Type 0
+  HasPlaceAt position = (p : EarleySet) × (place_at places position ≡ Some p)
 
   -- the place of this number is at the position
   abbrev pub IsPlaceNumber : ℕ → ℕ → Type 0
@@ -61,7 +61,7 @@ pub record IsFollowedBy (old : List EarleySet) (place : EarleySet) (new : List E
   pub only : (position : ℕ) (p : EarleySet) → place_at new position ≡ Some p → (place_at old position ≡ Some p)
       ⊎ ((position ≡ place.position) × (p ≡ place))
   pub linked : AreLinked old → AreLinked new
-  pub first : (x : Item) → Contains place.items x → IsKept old x.origin → IsKept new x.origin
+  pub first : (x : Item) → Contains place.items x → HasPlaceAt old x.origin → HasPlaceAt new x.origin
   pub closed : AreBack old → (position : ℕ) (p : EarleySet) → place_at new position ≡ Some p
       → place_at old position ≡ Some p
-      → (x : Item) → Contains p.items x → IsKept old x.origin → IsKept new x.origin
+      → (x : Item) → Contains p.items x → HasPlaceAt old x.origin → HasPlaceAt new x.origin

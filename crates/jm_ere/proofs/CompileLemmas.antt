@@ -11,7 +11,7 @@ use Rattle.jm_table.proofs.MemberLemmas.{members_are}
 use Rattle.jm_ere.specs.Expressions.{Expression}
 use Rattle.jm_ere.specs.Meanings.{InLanguage, IsFailed}
 use Rattle.jm_ere.specs.NormalForms.{is_nullable, forms_of}
-use Rattle.jm_ere.specs.Groups.{IsCompiled, HasGroups, IsMatching, LeadsToMatch, AreLive, IsClosed}
+use Rattle.jm_ere.specs.Groups.{IsCompiled, HasGroups, IsMatching, LeadsToMatch, AreLive, DeadStaysDead}
 use Rattle.jm_ere.proofs.LanguageLemmas.{Decided, Same, nullable_tells}
 use Rattle.jm_ere.proofs.FormLemmas.{Gives, reached_gives}
 
@@ -95,7 +95,7 @@ first_below n x word all = all 0 0 (omega arith)
 rest_below : (n x : ℕ) (word : List ℕ) → All (λ letter. letter < n) (x ∷ word) → All (λ letter. letter < n) word
 rest_below n x word all k d lt = all (suc k) d (omega arith)
 
-module _ (t : Transitions) (forms : List Expression) (live : List Bool) (sound : AreLive t forms live) (closed : IsClosed t live) where
+module _ (t : Transitions) (forms : List Expression) (live : List Bool) (sound : AreLive t forms live) (closed : DeadStaysDead t live) where
   dead_stays : (word : List ℕ) (state : ℕ) → IsWord t word → slice_get live state ≡ Some false → slice_get live (state_from t state word) ≡ Some false
   dead_stays [] state below dead = dead
   dead_stays (x ∷ word) state below dead = dead_stays word (next_of t state x) (rest_below t.letters x word below) (closed state dead x (first_below t.letters x word below))
@@ -144,7 +144,7 @@ first_live t forms = record {
 pub has_groups : (forms : List Expression) (before one after : Transitions) (flags live : List Bool) (first second matched failed : List ℕ)
     → before.states ≡ length forms → before.groups ≡ [] → flags ≡ map is_nullable forms
     → ((s : ℕ) → Contains matched s ↔ (slice_get flags s ≡ Some true)) → ((s : ℕ) → Contains failed s ↔ (slice_get live s ≡ Some false))
-    → AreLive before forms live → IsClosed before live
+    → AreLive before forms live → DeadStaysDead before live
     → one ≡ record before { groups = before.groups ++ first ∷ [] } → ((s : ℕ) → Contains first s ↔ Contains matched s)
     → after ≡ record one { groups = one.groups ++ second ∷ [] } → ((s : ℕ) → Contains second s ↔ Contains failed s)
     → HasGroups forms before after

@@ -36,8 +36,8 @@ abbrev pub LeadsToDead : Transitions → List Bool → ℕ → Type 0
 LeadsToDead t live state = (letter : ℕ) → letter < t.letters → slice_get live (next_of t state letter) ≡ Some false
 
 -- from states whose flag isn't set, letters lead to such states alone
-abbrev pub IsClosed : Transitions → List Bool → Type 0
-IsClosed t live = (state : ℕ) → slice_get live state ≡ Some false → LeadsToDead t live state
+abbrev pub DeadStaysDead : Transitions → List Bool → Type 0
+DeadStaysDead t live = (state : ℕ) → slice_get live state ≡ Some false → LeadsToDead t live state
 
 -- The table after has two groups, and the one before has none: the matching states, and those from which no word leads
 -- to a matching one.

@@ -2,7 +2,7 @@
 ghost use Rattle.std.specs.Prelude.{◌≡◌, ◌<◌, true, false, Some, IfSome, IfNone, IfOk, IfErr, map, length, vec_len, slice_get, List};
 ghost use Rattle.jm_ere.specs.Expressions.{Expression};
 ghost use Rattle.jm_ere.specs.NormalForms.{is_nullable};
-ghost use Rattle.jm_ere.specs.Groups.{AreLive, LeadsToLive, LeadsToDead, IsClosed};
+ghost use Rattle.jm_ere.specs.Groups.{AreLive, LeadsToLive, LeadsToDead, DeadStaysDead};
 ghost use Rattle.jm_table.specs.Tables.{IsTable};
 
 use crate::order::is_nullable;
@@ -44,7 +44,7 @@ fn next_live(table: &Table, live: &[bool]) -> Option<u16>
     requires many { length live.now ≡ table.now.states }
     ensures dead { IfSome result (λ state. slice_get live.now state ≡ Some false) }
     ensures leads { IfSome result (λ state. LeadsToLive table.now live.now state) }
-    ensures closed { IfNone result (IsClosed table.now live.now) }
+    ensures closed { IfNone result (DeadStaysDead table.now live.now) }
 {
     for state in 0..table.len() {
         if !live[state as usize] && leads_to_live(table, live, state) {
@@ -60,7 +60,7 @@ pub(crate) fn close_backward(table: &Table, live: &mut Vec<bool>)
     requires many { vec_len live.old ≡ table.now.states }
     ensures live { (forms : List Expression) → AreLive table.now forms live.old.items
         → AreLive table.now forms live.new.items }
-    ensures closed { IsClosed table.now live.new.items }
+    ensures closed { DeadStaysDead table.now live.new.items }
 {
     while let Some(state) = next_live(table, live.as_slice()) {
         live[state as usize] = true;

@@ -8,7 +8,7 @@ use Rattle.jm_model.specs.declared.fault.ScriptFault.{ScriptFault}
 use Rattle.jm_events.specs.Names.{number_of}
 use Rattle.jm_script.specs.Catalogs.{spec_names}
 use Rattle.jm_script.specs.declared.script.ScriptLine.{ScriptLine}
-use Rattle.jm_inputs.specs.Sources.{Source, Named, Given, Gives, IsTold, AllTold}
+use Rattle.jm_inputs.specs.Sources.{Source, Named, Given, Gives, IsSourceTold, AllTold}
 use Rattle.jm_inputs.specs.Specifications.{Specification, IsSpecification}
 use Rattle.jm_inputs.specs.Scripts.{catalog_of, IsScript, IsScriptFault, too_long, in_line, IsScriptFile, IsScriptFileFault, file_too_long, in_file}
 use Rattle.jm_inputs.specs.Inputs.{grammar_fault, refusal_of, IsAdmitted, IsRefusal, faulty, refused, SaySpecifications, AreReadUpTo, step_count, SayScripts, AreScriptsUpTo, lines_in, names_in, asked_behind, names_behind_all}
@@ -74,7 +74,7 @@ told_one : (o : Option (List ℕ)) (a b : List ℕ) → IsSome o → IfSome o (�
 told_one None a b told ha hb = absurd cc
 told_one (Some held) a b told ha hb = ha ∙ sym hb
 
-pub one_given : (contents : List ℕ → Option (List ℕ)) (source : Source) (a b : List ℕ) → IsTold contents source → Gives contents source a → Gives contents source b → a ≡ b
+pub one_given : (contents : List ℕ → Option (List ℕ)) (source : Source) (a b : List ℕ) → IsSourceTold contents source → Gives contents source a → Gives contents source b → a ≡ b
 one_given contents (Named name) a b told ha hb = told_one (contents name) a b told ha hb
 one_given contents (Given given) a b told ha hb = ha ∙ sym hb
 

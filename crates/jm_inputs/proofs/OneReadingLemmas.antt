@@ -25,7 +25,7 @@ use Rattle.jm_machine.specs.Handlers.{handlers_fault, suffix_fault}
 use Rattle.jm_machine.specs.Meanings.{RuleDefinition, rules_of}
 use Rattle.jm_machine.specs.Compiling.{AreFormulas, properties_said, IsCompiledFrom}
 use Rattle.jm_machine.proofs.ReadingLemmas.{one_rules, rules_or_fault}
-use Rattle.jm_inputs.specs.Specifications.{Specification, logics_of, grammar_line_of, all_handlers, IsTold, IsSpecification, BlocksSay, IsSpecFault, too_long, no_tokens, in_frame, in_tree}
+use Rattle.jm_inputs.specs.Specifications.{Specification, logics_of, grammar_line_of, all_handlers, IsTreeOfBytes, IsSpecification, BlocksSay, IsSpecFault, too_long, no_tokens, in_frame, in_tree}
 
 pub same_ok : {X E : Type 0} {x y : X} → ◌≡◌ {A = Result X E} (Ok x) (Ok y) → x ≡ y
 same_ok e = cc
@@ -93,7 +93,7 @@ pub record IsSameTold (ts us : List Token) (a b : SpecTree) : Type 0 where
   pub tokens : ts ≡ us
   pub tree : IsSameTree a b
 
-pub one_told : (bytes : List ℕ) (ts us : List Token) (a b : SpecTree) → IsTold bytes ts a → IsTold bytes us b → IsSameTold ts us a b
+pub one_told : (bytes : List ℕ) (ts us : List Token) (a b : SpecTree) → IsTreeOfBytes bytes ts a → IsTreeOfBytes bytes us b → IsSameTold ts us a b
 one_told bytes ts us a b ha hb =
     let tokens = one_list bytes ts us ha.cut hb.cut in
     let frame = one_frame bytes ts us ha.told.0 hb.told.0 tokens ha.told.1 hb.told.1 in

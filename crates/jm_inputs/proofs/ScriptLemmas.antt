@@ -7,7 +7,7 @@ use Rattle.jm_model.specs.declared.fault.ScriptFault.{ScriptFault}
 use Rattle.jm_script.specs.declared.script.ScriptLine.{ScriptLine}
 use Rattle.jm_script.specs.Catalogs.{CatalogEntry}
 use Rattle.jm_script.specs.Meanings.{script_meaning}
-use Rattle.jm_script.specs.Answers.{IsWhole, IsRefused}
+use Rattle.jm_script.specs.Answers.{IsReadWhole, IsRefused}
 use Rattle.jm_script.specs.Fitting.{FitsCatalog}
 use Rattle.jm_script.specs.Meanings.{RisesFrom as StepsRiseFrom}
 use Rattle.jm_script.proofs.FittingLemmas.{FitsCatalog-more}
@@ -60,7 +60,7 @@ length-names_in false names bytes = omega arith
 -- ---- one script more, as its bytes stand
 
 module _ (specs : List Specification) (catalog : List CatalogEntry) (over : catalog ≡ catalog_of specs) (bytes : List ℕ) (small : length bytes ≤ most_bytes) where
-  pub steps_added : (old new : Scripts) (script : List ScriptLine) (cut : Cut) (lines : List SyncLine) → IsWhole (script_meaning catalog old.count bytes old.objects) old.count script new.objects new.count → FitsCatalog catalog (length new.objects) script
+  pub steps_added : (old new : Scripts) (script : List ScriptLine) (cut : Cut) (lines : List SyncLine) → IsReadWhole (script_meaning catalog old.count bytes old.objects) old.count script new.objects new.count → FitsCatalog catalog (length new.objects) script
       → StepsRiseFrom 1 script → new.count ≤ 200000 → length new.objects ≤ 65536 → length old.objects ≤ length new.objects → new.list.items ≡ old.list.items ++ script ∷ [] → cut.lines.items ≡ lines → new.cuts.items ≡ old.cuts.items ++ cut ∷ [] → new.posted ≡ old.posted
       → HasSteps specs bytes lines old new
   steps_added old new script cut lines whole fits rising steps names grown scripts asked cuts posted =

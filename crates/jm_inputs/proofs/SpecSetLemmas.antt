@@ -17,7 +17,7 @@ use Rattle.jm_inputs.specs.Sources.{Source}
 use Rattle.jm_inputs.specs.Scripts.{catalog_of}
 use Rattle.jm_inputs.specs.Inputs.{grammar_fault, IsRefusal, refused, SaySpecifications}
 use Rattle.jm_inputs.specs.Causes.{IsNoSpec, StopsSpecs}
-use Rattle.jm_inputs.specs.Reading.{listing, listed, listing_of, listed_in, specification_of, IsWhole, IsRead, specs_in, IsCatalogued, HasNext, HasNextFrom, IsSpecSetOf}
+use Rattle.jm_inputs.specs.Reading.{listing, listed, listing_of, listed_in, specification_of, FitsEntry, IsRead, specs_in, IsCatalogued, HasNext, HasNextFrom, IsSpecSetOf}
 use Rattle.jm_inputs.proofs.OneReadingLemmas.{same_err}
 use Rattle.jm_inputs.proofs.InputLemmas.{split_sources, more_sources, length-sources, not_refused_of, refused_twice, length-said, say_more}
 
@@ -52,10 +52,10 @@ length-specs_in spec_set h = length-map (listed_in spec_set) specification_of �
 pub listed_more : (old : SpecSet) (e : CatalogEntry) (l : CompiledSpec) → IsCatalogued old → (items : List CompiledSpec) (entries : List CatalogEntry) → items ≡ old.specs.items ++ l ∷ [] → entries ≡ old.catalog ++ e ∷ [] → listed entries items ≡ listed_in old ++ listing e l ∷ []
 listed_more old e l before items entries specs catalog = (λ i. listed (catalog i) (specs i)) ∙ listed-push old.catalog old.specs.items e l before.many
 
-pub added : (old new : SpecSet) (e : CatalogEntry) (l : CompiledSpec) → IsCatalogued old → new.specs.items ≡ old.specs.items ++ l ∷ [] → new.catalog ≡ old.catalog ++ e ∷ [] → IsWhole (listing e l) → IsCatalogued new
+pub added : (old new : SpecSet) (e : CatalogEntry) (l : CompiledSpec) → IsCatalogued old → new.specs.items ≡ old.specs.items ++ l ∷ [] → new.catalog ≡ old.catalog ++ e ∷ [] → FitsEntry (listing e l) → IsCatalogued new
 added old new e l before specs catalog whole = record {
   many = omega (arith, ap (λ v. length v) catalog, ap (λ v. length v) specs, length_push old.catalog e, length_push old.specs.items l, before.many);
-  kept = subst (All IsWhole) (sym (listed_more old e l before new.specs.items new.catalog specs catalog)) (All-push IsWhole (listed_in old) (listing e l) before.kept whole);
+  kept = subst (All FitsEntry) (sym (listed_more old e l before new.specs.items new.catalog specs catalog)) (All-push FitsEntry (listed_in old) (listing e l) before.kept whole);
 }
 
 module _ (families : Bool) (bytes : List ℕ) (old : SpecSet) (r : NamedSpec) (read : IsRead bytes r) where

@@ -14,11 +14,11 @@ use Rattle.jm_events.specs.Events.{EventDefinitions}
 use Rattle.jm_machine.specs.Compiling.{IsCompiledFrom, IsFaultyTree}
 use Rattle.jm_inputs.specs.declared.specification.SpecHeader.{SpecHeader}
 use Rattle.jm_inputs.specs.declared.specification.NamedSpec.{NamedSpec}
-use Rattle.jm_inputs.specs.Specifications.{IsTold, IsSpecFault, in_tree, logics_of, grammar_line_of, all_handlers, BlocksSay, most_bytes}
+use Rattle.jm_inputs.specs.Specifications.{IsTreeOfBytes, IsSpecFault, in_tree, logics_of, grammar_line_of, all_handlers, BlocksSay, most_bytes}
 use Rattle.jm_inputs.specs.Reading.{IsRead}
 
 module _ (bytes : List ℕ) (tokens : List Token) (small : length bytes ≤ most_bytes) (cut : AreTokensOf bytes tokens) where
-  told_of : (tree : SpecTree) → IsTreeOfTokens bytes tokens tree → IsTold bytes tokens tree
+  told_of : (tree : SpecTree) → IsTreeOfTokens bytes tokens tree → IsTreeOfBytes bytes tokens tree
   told_of tree told = record { small = small; cut = cut; told = told }
 
   pub tree_fault_of : (tree : SpecTree) (fault : SpecFault) → IsTreeOfTokens bytes tokens tree → IsFaultyTree bytes tokens tree fault → IsSpecFault bytes fault

@@ -72,13 +72,14 @@ pub record AreRulesOf (entry : CatalogEntry) (rules : RuleDefinition) : Type 0 w
   pub fit : All (λ mask. mask < 2 ^ length entry.table.parameters) rules.masks
   pub few : handler_count rules.properties ≤ 16
 
-abbrev pub IsWhole : Listed → Type 0
-IsWhole l = AreRulesOf l.entry l.rules.definition
+-- the rules that are kept are those of the entry
+abbrev pub FitsEntry : Listed → Type 0
+FitsEntry l = AreRulesOf l.entry l.rules.definition
 
 -- the bytes say the specification that is kept
 pub record IsRead (bytes : Text) (r : NamedSpec) : Type 0 where
   pub said : IsSpecification bytes (specification_of (listing_of r))
-  pub kept : IsWhole (listing_of r)
+  pub kept : FitsEntry (listing_of r)
 
 -- the specifications of a spec set
 abbrev pub listed_in : SpecSet → List Listed
@@ -87,10 +88,10 @@ listed_in spec_set = listed spec_set.catalog spec_set.specs.items
 abbrev pub specs_in : SpecSet → List Specification
 specs_in spec_set = map specification_of (listed_in spec_set)
 
--- the catalog has an entry for each specification, and each is kept whole
+-- the catalog has an entry for each specification, and the rules of each fit its entry
 pub record IsCatalogued (spec_set : SpecSet) : Type 0 where
   pub many : length spec_set.catalog ≡ length spec_set.specs.items
-  pub kept : All IsWhole (listed_in spec_set)
+  pub kept : All FitsEntry (listed_in spec_set)
 
 -- the spec set has one specification more, which these bytes say
 pub record HasNext (families : Bool) (bytes : Text) (old new : SpecSet) : Type 0 where

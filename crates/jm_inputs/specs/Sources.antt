@@ -22,20 +22,20 @@ IsFile (Named name) = Unit {0}
 IsFile (Given bytes) = ⊥
 
 -- the file of this name holds these bytes, as far as it is told what files hold
-abbrev pub Holds : FileContents → Text → Text → Type 0
-Holds contents name bytes = IfSome (contents name) (λ held. bytes ≡ held)
+abbrev pub FileHolds : FileContents → Text → Text → Type 0
+FileHolds contents name bytes = IfSome (contents name) (λ held. bytes ≡ held)
 
 -- the source gives these bytes
 abbrev pub Gives : FileContents → Source → Text → Type 0
-Gives contents (Named name) bytes = Holds contents name bytes
+Gives contents (Named name) bytes = FileHolds contents name bytes
 Gives contents (Given given) bytes = bytes ≡ given
 
 -- it is told what the source gives
-abbrev pub IsTold : FileContents → Source → Type 0
-IsTold contents (Named name) = IsSome (contents name)
-IsTold contents (Given given) = Unit {0}
+abbrev pub IsSourceTold : FileContents → Source → Type 0
+IsSourceTold contents (Named name) = IsSome (contents name)
+IsSourceTold contents (Given given) = Unit {0}
 
 -- and what each of these does
 abbrev pub AllTold : FileContents → List Source → Type 0
 AllTold contents [] = Unit {0}
-AllTold contents (source ∷ sources) = IsTold contents source × AllTold contents sources
+AllTold contents (source ∷ sources) = IsSourceTold contents source × AllTold contents sources

@@ -46,7 +46,7 @@ most_bytes = 4194304
 -- ---- what a file says
 
 -- the bytes have tokens, which spell a frame without a fault, and this is its tree
-pub record IsTold (bytes : Text) (tokens : List Token) (tree : SpecTree) : Type 0 where
+pub record IsTreeOfBytes (bytes : Text) (tokens : List Token) (tree : SpecTree) : Type 0 where
   pub small : length bytes ≤ most_bytes
   pub cut : AreTokensOf bytes tokens
   pub told : IsTreeOfTokens bytes tokens tree
@@ -79,7 +79,7 @@ BlocksSay bytes tokens parameters (h ∷ hs) texts =
 pub record IsSpecification (bytes : Text) (s : Specification) : Type 0 where
   pub tokens : List Token
   pub tree : SpecTree
-  pub told : IsTold bytes tokens tree
+  pub told : IsTreeOfBytes bytes tokens tree
   pub rules : IsCompiledFrom bytes tokens tree s.rules
   pub name : s.name ≡ name_of bytes tree.name
   pub table : s.table ≡ tree.table
@@ -100,6 +100,6 @@ pub data IsSpecFault (bytes : Text) : SpecFault → Type 0 where
       → IsFaultOfTokens bytes tokens (Bad fault)
       → IsSpecFault bytes fault
   in_tree : (tokens : List Token) (tree : SpecTree) (fault : SpecFault)
-      → IsTold bytes tokens tree
+      → IsTreeOfBytes bytes tokens tree
       → IsFaultyTree bytes tokens tree fault
       → IsSpecFault bytes fault

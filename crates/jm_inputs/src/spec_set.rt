@@ -9,7 +9,7 @@ ghost use Rattle.jm_inputs.specs.Sources.{FileContents, Named};
 ghost use Rattle.jm_inputs.specs.Specifications.{most_bytes};
 ghost use Rattle.jm_inputs.specs.Scripts.{catalog_of};
 ghost use Rattle.jm_inputs.specs.Inputs.{asks_families, grammar_fault, IsRefusal};
-ghost use Rattle.jm_inputs.specs.Reading.{IsWhole, named_entry, listing, listed_in, specs_in, IsCatalogued, HasNext, HasNextFrom, IsSpecSetOf};
+ghost use Rattle.jm_inputs.specs.Reading.{FitsEntry, named_entry, listing, listed_in, specs_in, IsCatalogued, HasNext, HasNextFrom, IsSpecSetOf};
 ghost use Rattle.jm_inputs.specs.Causes.{CountsFailedReads, IsNoSpec, IsNoSpecIn, StopsSpecs};
 
 use crate::files::load;
@@ -58,7 +58,7 @@ impl SpecSet {
     ) -> Result<(), SpecError>
         requires bounded { length self.old.specs.items < most_specs }
         requires catalogued { IsCatalogued self.old }
-        requires whole { IsWhole (listing (named_entry name.now table) compiled) }
+        requires whole { FitsEntry (listing (named_entry name.now table) compiled) }
         ensures listed { OnOk result (listed_in self.new
             ≡ listed_in self.old ++ listing (named_entry name.now table) compiled ∷ []) }
         ensures catalogued { OnOk result (IsCatalogued self.new) }

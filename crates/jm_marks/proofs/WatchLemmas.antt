@@ -10,7 +10,7 @@ use Rattle.jm_model.specs.Layout.{binding_eq}
 use Rattle.jm_model.specs.Bindings.{object_at}
 use Rattle.jm_marks.specs.Marks.{is_dead_object, is_at_live, has_live}
 use Rattle.jm_marks.specs.Layout.{IsBound, IsBoundBy, IsWatched, AreWatched}
-use Rattle.jm_marks.specs.Watch.{spot_of, IsAlive}
+use Rattle.jm_marks.specs.Watch.{spot_of, IsAliveSpot}
 
 -- a binding that binds a live object has one
 pub has_live-bound : (flags : List Bool) (b : List (Option ℕ)) (p o : ℕ) → object_at b p ≡ Some o → is_dead_object flags o ≡ false → has_live flags b ≡ true
@@ -47,10 +47,10 @@ live_at flags bindings k v low is = mapped (has_live flags) bindings k [] low �
 
 -- a mark whose spot is that of a live object has a live object
 pub alive_at : (dead : List Bool) (bindings : List (List (Option ℕ))) (spots : List ℕ) (k : ℕ) → AreWatched bindings spots → k < length bindings
-    → IsAlive dead (get_or spots k 0) → slice_get (map (has_live dead) bindings) k ≡ Some true
+    → IsAliveSpot dead (get_or spots k 0) → slice_get (map (has_live dead) bindings) k ≡ Some true
 alive_at dead bindings spots k are low alive = live_at dead bindings k true low (at (are.each k low) alive)
   where
-    at : IsWatched (get_or bindings k []) (get_or spots k 0) → IsAlive dead (get_or spots k 0) → has_live dead (get_or bindings k []) ≡ true
+    at : IsWatched (get_or bindings k []) (get_or spots k 0) → IsAliveSpot dead (get_or spots k 0) → has_live dead (get_or bindings k []) ≡ true
     at (inl none) (some, live) = absurd (omega (arith, none, some))
     at (inr (o, is, (p, bound))) (some, live) =
         let same : get_or spots k 0 - 1 ≡ o = omega (arith, is) in

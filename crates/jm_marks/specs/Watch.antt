@@ -22,12 +22,12 @@ abbrev pub IsQuiet : List ℕ → ℕ → Type 0
 IsQuiet flags s = slice_index_or flags s 1 ≡ 0
 
 -- the spot is that of an object that isn't dead
-abbrev pub IsAlive : List Bool → ℕ → Type 0
-IsAlive dead s = (0 < s) × (is_dead_object dead (s - 1) ≡ false)
+abbrev pub IsAliveSpot : List Bool → ℕ → Type 0
+IsAliveSpot dead s = (0 < s) × (is_dead_object dead (s - 1) ≡ false)
 
 -- only spots of objects that aren't dead have a flag that is 0
 abbrev pub AreFresh : List Bool → List ℕ → Type 0
-AreFresh dead flags = (s : ℕ) → IsQuiet flags s → IsAlive dead s
+AreFresh dead flags = (s : ℕ) → IsQuiet flags s → IsAliveSpot dead s
 
 -- a flag stays as it is, or becomes a bit
 abbrev pub IsSetBy : ℕ → ℕ → ℕ → Type 0

@@ -4,7 +4,7 @@ ghost use Rattle.std.specs.Prelude.{ℕ, ◌≡◌, ◌+◌, ◌/◌, ◌%◌, �
 ghost use Rattle.std.specs.Int.{bit_at};
 ghost use Rattle.std.specs.List.{swap_remove};
 ghost use Rattle.jm_marks.specs.Marks.{is_dead_object};
-ghost use Rattle.jm_marks.specs.Watch.{spot_of, IsQuiet, IsAlive, IsSetBy, AreFresh, AreFlags};
+ghost use Rattle.jm_marks.specs.Watch.{spot_of, IsQuiet, IsAliveSpot, IsSetBy, AreFresh, AreFlags};
 
 use jm_objects::Objects;
 use std::alloc::{AllocError, Global};
@@ -142,7 +142,7 @@ impl Spots {
     /// Whether the object of the mark at a place is alive, if it has a spot.
     pub(crate) fn is_alive(&self, objects: &Objects, place: usize) -> bool
         requires { place < length self.now.spots }
-        ensures { IsTrue result → IsAlive objects.now (slice_index self.now.spots place) }
+        ensures { IsTrue result → IsAliveSpot objects.now (slice_index self.now.spots place) }
     {
         let object = self.spots[place].wrapping_sub(1);
         object < objects.len() && !objects.is_dead(object)

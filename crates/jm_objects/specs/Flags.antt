@@ -16,6 +16,6 @@ abbrev pub IsRoom : ℕ → List ℕ → Type 0
 IsRoom n words = n ≤ 64 * length words
 
 -- there is room, and where it is said that no object is dead none is
-pub record IsKept (n : ℕ) (words : List ℕ) (any_dead : Bool) : Type 0 where
+pub record AreSoundFlags (n : ℕ) (words : List ℕ) (any_dead : Bool) : Type 0 where
   pub room : IsRoom n words
   pub alive : any_dead ≡ false → (o : ℕ) → slice_get (flags_of n words) o ≡ Some true → ⊥

@@ -15,13 +15,13 @@ pub struct Objects {
 
 impl Model for Objects {
     ghost use Rattle.std.specs.Prelude.{List, Bool};
-    ghost use Rattle.jm_objects.specs.Flags.{flags_of, IsKept};
+    ghost use Rattle.jm_objects.specs.Flags.{flags_of, AreSoundFlags};
 
     ghost Value = { List Bool };
 
     ghost view = { λ o. flags_of o.len o.words.items };
 
-    ghost invariant = { λ o. IsKept o.len o.words.items o.any_dead };
+    ghost invariant = { λ o. AreSoundFlags o.len o.words.items o.any_dead };
 }
 
 impl Objects {

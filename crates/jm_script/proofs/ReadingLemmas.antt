@@ -8,7 +8,7 @@ use Rattle.jm_script.specs.Catalogs.{CatalogEntry}
 use Rattle.jm_script.specs.Meanings.{LineMeaning, ScriptMeaning, line_meaning, with_line, steps_of, led_by, lines_meaning, script_meaning, RisesFrom}
 use Rattle.jm_model.specs.declared.fault.ScriptError.{ScriptError}
 use Rattle.jm_model.specs.declared.fault.ScriptError.TheVariants.{Bad, NoMemory}
-use Rattle.jm_script.specs.Answers.{IsStoppedBy, IsWhole, IsLeft, count_left}
+use Rattle.jm_script.specs.Answers.{IsStoppedBy, IsReadWhole, IsLeft, count_left}
 use Rattle.jm_script.proofs.ObjectLemmas.{IsExtension-trans, length-IsExtension}
 use Rattle.jm_script.proofs.MeaningLemmas.{line_keeps}
 use Rattle.jm_script.specs.declared.script.Target.{Target}
@@ -85,7 +85,7 @@ module _ (catalog : List CatalogEntry) (meaning : ScriptMeaning) (count : ℕ) (
     ended NoMemory new h = record { extended = IsExtension-trans old names new before.extended h; counted = refl }
 
   -- all lines are read
-  pub all_read : lines ≡ [] → IsWhole meaning count steps names (count + length steps)
+  pub all_read : lines ≡ [] → IsReadWhole meaning count steps names (count + length steps)
   all_read none =
       let whole : record { lines = steps; names = names; fault = None } ≡ meaning =
       ap (λ ls. record { lines = ls; names = names; fault = None }) (sym (append_none steps)) ∙ (rw none at before.left) in

@@ -23,7 +23,7 @@ IsReadAs meaning old (Err error) new = IsStoppedBy meaning old error new
 
 -- a script is read by its meaning: no line has a fault, these are its steps, the names and how many steps there are
 -- then
-pub record IsWhole (meaning : ScriptMeaning) (count : ℕ) (script : List ScriptLine) (names : List Text)
+pub record IsReadWhole (meaning : ScriptMeaning) (count : ℕ) (script : List ScriptLine) (names : List Text)
     (count_then : ℕ) : Type 0 where
   pub sound : meaning.fault ≡ None
   pub lines : script ≡ meaning.lines

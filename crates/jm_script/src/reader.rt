@@ -1,7 +1,7 @@
 //! Reading a whole script.
 ghost use Rattle.std.specs.Prelude.{◌≡◌, ◌<◌, ◌≤◌, ◌^◌, ◌-◌, length, IfOk, IfErr, OnOk};
 ghost use Rattle.jm_script.specs.Meanings.{most_steps, RisesFrom, script_meaning};
-ghost use Rattle.jm_script.specs.Answers.{IsWhole, IsLeft, count_left};
+ghost use Rattle.jm_script.specs.Answers.{IsReadWhole, IsLeft, count_left};
 ghost use Rattle.jm_script.specs.Fitting.{FitsCatalog};
 ghost use Rattle.jm_script.specs.Objects.{most_objects, IsExtension};
 
@@ -30,7 +30,7 @@ pub fn read_script(
 ) -> Result<Script, ScriptError>
     requires small { length bytes.now < 2 ^ 32 - 1 }
     requires bounded { (count.old ≤ most_steps) × (length objects.old ≤ most_objects) }
-    ensures ok { IfOk result (λ script. IsWhole
+    ensures ok { IfOk result (λ script. IsReadWhole
         (script_meaning catalog.now count.old bytes.now objects.old) count.old script objects.new count.new) }
     ensures fitting { IfOk result (λ script. FitsCatalog catalog.now (length objects.new) script) }
     ensures bounded { OnOk result ((count.new ≤ most_steps) × (length objects.new ≤ most_objects)) }
@@ -58,7 +58,7 @@ pub fn read_compact(
 ) -> Result<CompactScript, ScriptError>
     requires small { length bytes.now < 2 ^ 32 - 1 }
     requires bounded { (count.old ≤ most_steps) × (length objects.old ≤ most_objects) }
-    ensures ok { IfOk result (λ script. IsWhole
+    ensures ok { IfOk result (λ script. IsReadWhole
         (script_meaning catalog.now count.old bytes.now objects.old) count.old script objects.new count.new) }
     ensures fitting { IfOk result (λ script. FitsCatalog catalog.now (length objects.new) script) }
     ensures bounded { OnOk result ((count.new ≤ most_steps) × (length objects.new ≤ most_objects)) }

@@ -25,7 +25,7 @@ use Rattle.jm_spec.specs.Reading.{place, any_word_at, passed}
 use Rattle.jm_spec.specs.Rules.{begins_clause, clause_at, clauses_at, more_word_at, begins_more_word, more_words_at, modifier_of, modifier_at, begins_modifier, modifiers_at, named_at, param_at, more_param_at, begins_more_param, more_params_at, params_at, list_at, run_at, pointcut_at, before_at, optional_list_at, outcome_at, after_at, other_at, advice_at, creation_at, begins_event, event_at, member_at, begins_member, members_at, block_at, handler_at, begins_handler, handlers_at, property_at, goes_on, properties_at, frame_at, frame_of}
 use Rattle.jm_spec.specs.Balance.{member_sign, open_after}
 use Rattle.jm_reading.specs.Tokens.{IsMark, IsWord, IsName}
-use Rattle.jm_spec.specs.Spelling.{IsAnyWord, Repeats, nothing, one_more as another, Spelled, SpelledAnywhere, BeginsClause, SpellsClause, clause, SpellsMoreWord, more_word, SpellsModifier, modifier, open_in_list, Holds, IsType, SpellsParam, param, SpellsMoreParam, more_param, SpellsParams, no_params, some_params, SpellsList, list, RunsToEnd, SpellsOutcome, missing, alone, with_list, BeginsOther, SpellsAdvice, before, after, other, SpellsEvent, event, creation_event, SpellsMember, declaration, an_event, SpellsHandler, handler, SpellsProperty, property, BeginsNoClause, SpellsHead, head, SpellsBody, body, Spells, file}
+use Rattle.jm_spec.specs.Spelling.{IsAnyWord, Repeats, nothing, one_more as another, Spelled, SpelledAnywhere, BeginsClause, SpellsClause, clause, SpellsMoreWord, more_word, SpellsModifier, modifier, open_in_list, AllowsComma, IsType, SpellsParam, param, SpellsMoreParam, more_param, SpellsParams, no_params, some_params, SpellsList, list, RunsToEnd, SpellsOutcome, missing, alone, with_list, BeginsOther, SpellsAdvice, before, after, other, SpellsEvent, event, creation_event, SpellsMember, declaration, an_event, SpellsHandler, handler, SpellsProperty, property, BeginsNoClause, SpellsHead, head, SpellsBody, body, Spells, file}
 use Rattle.jm_reading.proofs.TokenLemmas.{mark_is, name_is, step_of}
 use Rattle.jm_spec.proofs.TokenLemmas.{never_both, no_mark, no_word, no_other_word, no_other_mark, word_kind, name_kind, word_sign, mark_sign}
 use Rattle.jm_spec.proofs.RepeatLemmas.{never_some, same_some, both_give, steps_complete, items_complete}
@@ -154,7 +154,7 @@ split_last (t ∷ ts) name (f ∷ front) behind comma e =
 held_with_name : (bytes : List ℕ) (type : List Token) (name : Token) → IsType bytes type → IsName bytes name → IsHeld bytes [] (type ++ name ∷ [])
 held_with_name bytes type name t is_name front behind comma split sign = given (split_last type name front behind comma split)
   where
-    given : (name ≡ comma) ⊎ ((left : List Token) × (type ≡ front ++ comma ∷ left)) → Holds (open_in_list bytes [] front)
+    given : (name ≡ comma) ⊎ ((left : List Token) × (type ≡ front ++ comma ∷ left)) → AllowsComma (open_in_list bytes [] front)
     given (inl same) = absurd (let e : Plain ≡ Comma = sym (word_sign bytes name (name_kind bytes name is_name)) ∙ ap (sign_of bytes) same ∙ sign in cc)
     given (inr r) = t.held front r.0 comma r.1 sign
 

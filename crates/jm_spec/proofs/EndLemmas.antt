@@ -15,7 +15,7 @@ use Rattle.jm_spec.specs.Runs.{one_more, may_end, clause_length, member_length, 
 use Rattle.jm_spec.specs.Reading.{passed}
 use Rattle.jm_spec.specs.Balance.{member_sign, open_after, may_end_after, EndsFrom, EndsMember}
 use Rattle.jm_reading.specs.Tokens.{IsMark}
-use Rattle.jm_spec.specs.Spelling.{RunsToEnd, IsFormula, open_in_list, Holds}
+use Rattle.jm_spec.specs.Spelling.{RunsToEnd, IsFormula, open_in_list, AllowsComma}
 use Rattle.jm_reading.proofs.TokenLemmas.{step_of}
 use Rattle.jm_spec.proofs.BalanceLemmas.{member_found, member_none, nothing_ends, longer_end, behind}
 use Rattle.jm_spec.proofs.TokenLemmas.{never_both, mark_sign, curly_mark}
@@ -153,7 +153,7 @@ formula_complete bytes (t ∷ ts) rest f stop =
 
 -- the commas of a run are held, where these brackets are open before it
 abbrev pub IsHeld : List ℕ → List Bracket → List Token → Type 0
-IsHeld bytes stack run = (front behind : List Token) (comma : Token) → run ≡ front ++ comma ∷ behind → sign_of bytes comma ≡ Comma → Holds (open_in_list bytes stack front)
+IsHeld bytes stack run = (front behind : List Token) (comma : Token) → run ≡ front ++ comma ∷ behind → sign_of bytes comma ≡ Comma → AllowsComma (open_in_list bytes stack front)
 
 pub record TakesParameter (bytes : List ℕ) (stack : List Bracket) (tokens : List Token) (n : ℕ) : Type 0 where
   pub front : List Token
@@ -193,7 +193,7 @@ held_more bytes stack inner t ts stays is held (f ∷ front) behind comma e sign
     let h : t ∷ ts ≡ f ∷ (front ++ comma ∷ behind) = e in
     let same : t ≡ f = cc in
     let tail : ts ≡ front ++ comma ∷ behind = cc in
-    subst Holds (sym (opened bytes stack inner t front is) ∙ ap (λ x. open_in_list bytes stack (x ∷ front)) same) (held front behind comma tail sign)
+    subst AllowsComma (sym (opened bytes stack inner t front is) ∙ ap (λ x. open_in_list bytes stack (x ∷ front)) same) (held front behind comma tail sign)
 
 parameter_more : (bytes : List ℕ) (stack inner : List Bracket) (t : Token) (ts : List Token) (m n : ℕ) → n ≡ suc m → parts stack (sign_of bytes t) ≡ false → after_sign stack (sign_of bytes t) ≡ Some inner → TakesParameter bytes inner ts m → TakesParameter bytes stack (t ∷ ts) n
 parameter_more bytes stack inner t ts m n count stays is r = record {
@@ -249,7 +249,7 @@ goes_on stack Plain inner is held = refl
 
 held_behind : (bytes : List ℕ) (stack inner : List Bracket) (t : Token) (ts : List Token) → after_sign stack (sign_of bytes t) ≡ Some inner → IsHeld bytes stack (t ∷ ts) → IsHeld bytes inner ts
 held_behind bytes stack inner t ts is held front behind comma e sign =
-    subst Holds (opened bytes stack inner t front is) (held (t ∷ front) behind comma (ap (λ xs. t ∷ xs) e) sign)
+    subst AllowsComma (opened bytes stack inner t front is) (held (t ∷ front) behind comma (ap (λ xs. t ∷ xs) e) sign)
 
 parameter_step : (bytes : List ℕ) (stack : List Bracket) (t : Token) (ts rest : List Token) (after : Option (List Bracket)) → ((inner : List Bracket) → open_in_list bytes inner ts ≡ Some [] → IsHeld bytes inner ts → parameter_rest bytes inner (ts ++ rest) ≡ Some (length ts)) → after_sign stack (sign_of bytes t) ≡ after → option_and_then (λ inner. open_in_list bytes inner ts) after ≡ Some [] → IsHeld bytes stack (t ∷ ts) → parameter_rest bytes stack (t ∷ ts ++ rest) ≡ Some (suc (length ts))
 parameter_step bytes stack t ts rest None more is balanced held = absurd (never_some balanced)

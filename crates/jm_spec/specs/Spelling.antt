@@ -67,17 +67,17 @@ open_in_list bytes stack [] = Some stack
 open_in_list bytes stack (t ∷ ts) =
     option_and_then (λ inner. open_in_list bytes inner ts) (after_sign stack (sign_of bytes t))
 
--- an angle, round or square bracket is open
-abbrev pub Holds : Option (List Bracket) → Type 0
-Holds None = ⊥
-Holds (Some stack) = hold_commas stack ≡ true
+-- a comma may stand where these brackets are open: an angle, round or square one is among them
+abbrev pub AllowsComma : Option (List Bracket) → Type 0
+AllowsComma None = ⊥
+AllowsComma (Some stack) = hold_commas stack ≡ true
 
 -- a Type is a balanced run that isn't empty; its commas stand in angle, round or square brackets
 pub record IsType (bytes : Text) (run : List Token) : Type 0 where
   pub filled : run ≢ []
   pub balanced : open_in_list bytes [] run ≡ Some []
   pub held : (front behind : List Token) (comma : Token) → run ≡ front ++ comma ∷ behind → sign_of bytes comma ≡ Comma
-      → Holds (open_in_list bytes [] front)
+      → AllowsComma (open_in_list bytes [] front)
 
 -- Param = Type NAME
 pub data SpellsParam (bytes : Text) : List Token → List Token → Type 0 where

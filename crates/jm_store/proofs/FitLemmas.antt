@@ -13,7 +13,7 @@ use Rattle.jm_monitors.specs.declared.stored.Stored.{Stored}
 use Rattle.jm_store.specs.declared.monitors.Slot.{Slot}
 use Rattle.jm_store.specs.Slots.{IsUsed, slot_at, monitors_of, monitor_at}
 use Rattle.jm_store.specs.Contents.{Contents, IsFit, ArePaired, with_ending}
-use Rattle.jm_store.specs.Housing.{IsHoused, IsKept}
+use Rattle.jm_store.specs.Housing.{IsHoused, FitsTogether}
 use Rattle.jm_store.specs.declared.monitors.Slot.TheVariants.{Taken}
 use Rattle.jm_store.proofs.SlotLemmas.{place_of}
 use Rattle.jm_store.proofs.GivenLemmas.{one_pair}
@@ -43,7 +43,7 @@ module _ {S : Type 0} where
   are_paired slots marks open' index ending h = record { paired = h.paired; bindings = h.bindings; within = housed_within slots index.list h }
 
   -- one monitor, and its pair
-  pub kept_first : (s : Stored S) (d spare : ℕ) → mask_of s.instance ≡ d → IsKept (Taken s ∷ []) (record { binding = s.instance; slot = 0 } ∷ []) (d ∷ []) false spare
+  pub kept_first : (s : Stored S) (d spare : ℕ) → mask_of s.instance ≡ d → FitsTogether (Taken s ∷ []) (record { binding = s.instance; slot = 0 } ∷ []) (d ∷ []) false spare
   kept_first s d spare is =
       let pair : Pair = record { binding = s.instance; slot = 0 } in
       record {

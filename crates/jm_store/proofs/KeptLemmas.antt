@@ -12,14 +12,14 @@ use Rattle.jm_monitors.specs.declared.stored.Stored.{Stored}
 use Rattle.jm_store.specs.declared.monitors.Slot.{Slot}
 use Rattle.jm_store.specs.declared.monitors.Slot.TheVariants.{Free, Planned, Taken}
 use Rattle.jm_store.specs.Slots.{monitor_in, IsUsed, slot_at, monitors_of, monitor_at, stored_in, IsReserved}
-use Rattle.jm_store.specs.Housing.{IsHoused, IsKept}
+use Rattle.jm_store.specs.Housing.{IsHoused, FitsTogether}
 use Rattle.jm_store.proofs.SlotLemmas.{monitor_at-slot, slot_at-set_same, slot_at-set_other, used_within, monitor_used, unused_none, stored_in-planned}
 use Rattle.jm_store.proofs.HousingLemmas.{housed_put, housed_gone, housed_planned, housed_released, domains_more, domains_added, domains_without, pair_by_slot, pair_by_binding, from_without}
 
 module _ {S : Type 0} where
   -- a monitor is put into the slot of its pair
-  pub kept_put : (slots : List (Slot S)) (pairs : List Pair) (domains : List ℕ) (open' : Bool) (spare k : ℕ) (s : Stored S) → IsKept slots pairs domains open' spare
-      → Contains pairs (record { binding = s.instance; slot = k }) → IsKept (slice_set slots k (Taken s)) pairs domains open' spare
+  pub kept_put : (slots : List (Slot S)) (pairs : List Pair) (domains : List ℕ) (open' : Bool) (spare k : ℕ) (s : Stored S) → FitsTogether slots pairs domains open' spare
+      → Contains pairs (record { binding = s.instance; slot = k }) → FitsTogether (slice_set slots k (Taken s)) pairs domains open' spare
   kept_put slots pairs domains open' spare k s h there = record {
     housed = housed_put slots pairs k s h.housed there;
     domains = h.domains;
@@ -39,7 +39,7 @@ module _ {S : Type 0} where
   }
 
   -- nothing is in memory
-  pub kept_vacant : (spare : ℕ) → IsKept {S = S} [] [] [] false spare
+  pub kept_vacant : (spare : ℕ) → FitsTogether {S = S} [] [] [] false spare
   kept_vacant spare = record {
     housed = record { paired = λ k s is. absurd (none-some s is); used = λ pair within. absurd (Contains-none pair within); bindings = λ i j d lt within. absurd (omega (arith, lt, within)); slots_apart = λ i j d lt within. absurd (omega (arith, lt, within)) };
     domains = record { distinct = λ i j d lt within. absurd (omega (arith, lt, within)); listed = λ pair within. absurd (Contains-none pair within) };
@@ -48,9 +48,9 @@ module _ {S : Type 0} where
   }
 
   -- a slot is planned for a new pair
-  pub kept_planned : (slots new : List (Slot S)) (pairs : List Pair) (ds es : List ℕ) (open' : Bool) (spare k : ℕ) (t : Binding) → open' ≡ true → IsKept slots pairs ds open' spare
+  pub kept_planned : (slots new : List (Slot S)) (pairs : List Pair) (ds es : List ℕ) (open' : Bool) (spare k : ℕ) (t : Binding) → open' ≡ true → FitsTogether slots pairs ds open' spare
       → IsReserved slots new k → ((pair : Pair) → Contains pairs pair → pair.binding ≡ t → ⊥) → AllPairs (λ a b. a ≢ b) es → ((d : ℕ) → Contains ds d → Contains es d) → Contains es (mask_of t)
-      → IsKept new (pairs ++ record { binding = t; slot = k } ∷ []) es open' spare
+      → FitsTogether new (pairs ++ record { binding = t; slot = k } ∷ []) es open' spare
   kept_planned slots new pairs ds es open' spare k t is h r absent apart more there = record {
     housed = housed_planned slots new pairs k t h.housed r absent;
     domains = domains_added es pairs t k (domains_more ds es pairs h.domains apart more) there;
@@ -59,9 +59,9 @@ module _ {S : Type 0} where
   }
 
   -- a slot is planned, and freed again
-  pub kept_released : (slots new : List (Slot S)) (pairs : List Pair) (ds es : List ℕ) (open' : Bool) (spare k n : ℕ) → open' ≡ true → IsKept slots pairs ds open' spare
+  pub kept_released : (slots new : List (Slot S)) (pairs : List Pair) (ds es : List ℕ) (open' : Bool) (spare k n : ℕ) → open' ≡ true → FitsTogether slots pairs ds open' spare
       → IsReserved slots new k → AllPairs (λ a b. a ≢ b) es → ((d : ℕ) → Contains ds d → Contains es d)
-      → IsKept (slice_set new k (Free n)) pairs es open' spare
+      → FitsTogether (slice_set new k (Free n)) pairs es open' spare
   kept_released slots new pairs ds es open' spare k n is h r apart more = record {
     housed = housed_released slots new pairs k n h.housed r;
     domains = domains_more ds es pairs h.domains apart more;
@@ -70,14 +70,14 @@ module _ {S : Type 0} where
   }
 
   -- only sets of parameters are more
-  pub kept_listed : (slots : List (Slot S)) (pairs : List Pair) (ds es : List ℕ) (open' : Bool) (spare : ℕ) → IsKept slots pairs ds open' spare
-      → AllPairs (λ a b. a ≢ b) es → ((d : ℕ) → Contains ds d → Contains es d) → IsKept slots pairs es open' spare
+  pub kept_listed : (slots : List (Slot S)) (pairs : List Pair) (ds es : List ℕ) (open' : Bool) (spare : ℕ) → FitsTogether slots pairs ds open' spare
+      → AllPairs (λ a b. a ≢ b) es → ((d : ℕ) → Contains ds d → Contains es d) → FitsTogether slots pairs es open' spare
   kept_listed slots pairs ds es open' spare h apart more = record { housed = h.housed; domains = domains_more ds es pairs h.domains apart more; settled = h.settled; room = h.room }
 
   -- a planned slot is freed, and its pair taken out
-  pub kept_taken_back : (slots : List (Slot S)) (pairs : List Pair) (domains : List ℕ) (open' : Bool) (spare k n : ℕ) (t : Binding) → open' ≡ true → IsKept slots pairs domains open' spare
+  pub kept_taken_back : (slots : List (Slot S)) (pairs : List Pair) (domains : List ℕ) (open' : Bool) (spare k n : ℕ) (t : Binding) → open' ≡ true → FitsTogether slots pairs domains open' spare
       → ((pair : Pair) → Contains pairs pair → pair.slot ≡ k → pair.binding ≡ t) → ((pair : Pair) → Contains pairs pair → pair.binding ≡ t → pair.slot ≡ k)
-      → IsKept (slice_set slots k (Free n)) (without t pairs) domains open' spare
+      → FitsTogether (slice_set slots k (Free n)) (without t pairs) domains open' spare
   kept_taken_back slots pairs domains open' spare k n t is h to of = record {
     housed = housed_gone slots pairs k n t h.housed to of;
     domains = domains_without domains pairs t h.domains;
@@ -95,8 +95,8 @@ module _ {S : Type 0} where
       monitor_at-slot (slice_set slots k (Free n)) k ∙ ap monitor_in (slot_at-set_same slots k (Free n) (used_within slots k (monitor_used slots k s at)))
 
   -- a slot is freed, and its pair taken out
-  pub kept_gone : (slots : List (Slot S)) (pairs : List Pair) (domains : List ℕ) (open' : Bool) (spare k n : ℕ) (t : Binding) → IsKept slots pairs domains open' spare
-      → Contains pairs (record { binding = t; slot = k }) → IsKept (slice_set slots k (Free n)) (without t pairs) domains open' spare
+  pub kept_gone : (slots : List (Slot S)) (pairs : List Pair) (domains : List ℕ) (open' : Bool) (spare k n : ℕ) (t : Binding) → FitsTogether slots pairs domains open' spare
+      → Contains pairs (record { binding = t; slot = k }) → FitsTogether (slice_set slots k (Free n)) (without t pairs) domains open' spare
   kept_gone slots pairs domains open' spare k n t h there =
       let to = pair_by_slot slots pairs k t h.housed there in
       record {
@@ -110,13 +110,13 @@ module _ {S : Type 0} where
       }
 
   -- a monitor is dropped with its pair
-  pub kept_dropped : (slots : List (Slot S)) (pairs : List Pair) (domains : List ℕ) (open' : Bool) (spare k n : ℕ) (s : Stored S) → IsKept slots pairs domains open' spare
-      → monitor_at (monitors_of slots) k ≡ Some s → IsKept (slice_set slots k (Free n)) (without s.instance pairs) domains open' spare
+  pub kept_dropped : (slots : List (Slot S)) (pairs : List Pair) (domains : List ℕ) (open' : Bool) (spare k n : ℕ) (s : Stored S) → FitsTogether slots pairs domains open' spare
+      → monitor_at (monitors_of slots) k ≡ Some s → FitsTogether (slice_set slots k (Free n)) (without s.instance pairs) domains open' spare
   kept_dropped slots pairs domains open' spare k n s h at = kept_gone slots pairs domains open' spare k n s.instance h (h.housed.paired k s at)
 
   -- a monitor's slot gets another of its instance
-  pub kept_changed : (slots : List (Slot S)) (pairs : List Pair) (domains : List ℕ) (open' : Bool) (spare k : ℕ) (s : Stored S) (state : S) → IsKept slots pairs domains open' spare
-      → monitor_at (monitors_of slots) k ≡ Some s → IsKept (slice_set slots k (Taken (record { instance = s.instance; state = state }))) pairs domains open' spare
+  pub kept_changed : (slots : List (Slot S)) (pairs : List Pair) (domains : List ℕ) (open' : Bool) (spare k : ℕ) (s : Stored S) (state : S) → FitsTogether slots pairs domains open' spare
+      → monitor_at (monitors_of slots) k ≡ Some s → FitsTogether (slice_set slots k (Taken (record { instance = s.instance; state = state }))) pairs domains open' spare
   kept_changed slots pairs domains open' spare k s state h at = kept_put slots pairs domains open' spare k (record { instance = s.instance; state = state }) h (h.housed.paired k s at)
 
   -- a slot that a pair leads to and that isn't planned has a monitor

@@ -15,7 +15,7 @@ use Rattle.jm_monitors.specs.Steps.{IsThinned, AreSpared, AreLiveMarks, IsCutSta
 use Rattle.jm_store.specs.declared.monitors.Slot.{Slot}
 use Rattle.jm_store.specs.Slots.{monitor_in, monitors_of, monitor_at, stored_in}
 use Rattle.jm_store.specs.Moves.{IsSwept}
-use Rattle.jm_store.specs.Housing.{IsHoused, IsKept}
+use Rattle.jm_store.specs.Housing.{IsHoused, FitsTogether}
 use Rattle.jm_store.proofs.SlotLemmas.{stored_at, place_of}
 use Rattle.jm_store.proofs.HousingLemmas.{pair_by_binding}
 use Rattle.jm_store.proofs.AfterLemmas.{AreSingle, single_stored}
@@ -26,8 +26,8 @@ module _ {S : Type 0} where
   single_housed slots pairs h j k r s at is same =
       pair_by_binding slots pairs k s.instance h (h.paired k s is) (record { binding = r.instance; slot = j }) (h.paired j r at) same
 
-  pub kept_swept : (slots : List (Slot S)) (pairs left : List Pair) (domains : List ℕ) (open' : Bool) (spare more : ℕ) → IsKept slots pairs domains open' spare → left ≡ pairs → spare ≤ more
-      → IsKept slots left domains open' more
+  pub kept_swept : (slots : List (Slot S)) (pairs left : List Pair) (domains : List ℕ) (open' : Bool) (spare more : ℕ) → FitsTogether slots pairs domains open' spare → left ≡ pairs → spare ≤ more
+      → FitsTogether slots left domains open' more
   kept_swept slots pairs left domains open' spare more h same le =
       rw same (record { housed = h.housed; domains = h.domains; settled = h.settled; room = λ is. let one = h.room is in omega (arith, one, le) })
 

@@ -28,7 +28,7 @@ use Rattle.jm_store.specs.declared.walk.Shift.{Shift}
 use Rattle.jm_store.specs.Slots.{IsUsed, monitor_in, monitors_of, monitor_at, slot_at}
 use Rattle.jm_store.specs.Moves.{AreMovesRead, AreEnding, AreApart, AreParted, AreSifted, EndsFewer, IsReadAt, IsReadIn, after_move, after_moves, asks_by, ends_all, has_all, reached_by}
 use Rattle.jm_store.specs.Contents.{Contents, stored_of, IsSpared, ArePlaced, ArePlacedOf, ArePaired, IsFilled, IsStoreAfter, IsEventDone}
-use Rattle.jm_store.specs.Housing.{IsKept}
+use Rattle.jm_store.specs.Housing.{FitsTogether}
 use Rattle.jm_store.specs.Listed.{AreListed, AreAtRest, AreOthersAtRest, slots_listed}
 use Rattle.jm_store.specs.Plans.{CanPlan, IsApplied}
 use Rattle.jm_store.specs.Walks.{HaveMonitors, IsShiftAt, AreShifted, IsAlike, AreAlike}
@@ -85,7 +85,7 @@ module _ {S : Type 0} (old new : List (Slot S)) (alike : AreAlike old new) where
       by (Taken s) (u, same, instance) used = subst IsUsed (sym same) tt
 
   pub kept_alike : (pairs : List Pair) (domains : List ℕ) (is_open : Bool) (spare : ℕ)
-      → IsKept old pairs domains is_open spare → IsKept new pairs domains is_open spare
+      → FitsTogether old pairs domains is_open spare → FitsTogether new pairs domains is_open spare
   kept_alike pairs domains is_open spare h = record {
     housed = record {
       paired = λ k t at.

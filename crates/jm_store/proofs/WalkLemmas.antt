@@ -30,7 +30,7 @@ use Rattle.jm_store.specs.Slots.{monitor_in, monitor_at, monitors_of, slot_at, s
 use Rattle.jm_store.specs.Moves.{IsAtRest}
 use Rattle.jm_store.specs.declared.walk.Told.{Told}
 use Rattle.jm_store.specs.declared.walk.Told.TheVariants.{Shifts, Rests, Nothing}
-use Rattle.jm_store.specs.Walks.{AreAliveBut, AreAmong, AreRows, EndsAll, EndsLike, IsTold, IsTurn, no_turn, AreTurns, IsShifting, IsShifted, AreShifted, IsAlike, AreAlike}
+use Rattle.jm_store.specs.Walks.{AreAliveBut, AreAmong, AreRows, EndsAll, EndsLike, IsToldByNumber, IsTurn, no_turn, AreTurns, IsShifting, IsShifted, AreShifted, IsAlike, AreAlike}
 use Rattle.jm_store.proofs.ReportLemmas.{set_from_bit}
 use Rattle.jm_store.proofs.SlotLemmas.{monitor_at-slot, slot_at-set_same, slot_at-set_other, used_within, monitor_used, not_taken}
 
@@ -138,10 +138,10 @@ module _ (m : Meaning) {S : Type 0} (Stands : S → List ℕ → Type 0) where
 
   -- what is told where its slot is in the lists of the letters
   pub told_by : (HasNumber : S → ℕ → Type 0) (letter : ℕ) (dead : List Bool) (b : Binding) (ending : List ℕ) (letters : ℕ) (card : Card) (base : Stored S) (next : ℕ) (told : Told) → (told ≡ Nothing) ⊎ (told ≡ Shifts next)
-      → (told ≢ Nothing → IsShifting m Stands HasNumber letter dead b ending letters card base next) → IsTold m Stands HasNumber letter dead b ending letters card base told
-  told_by HasNumber letter dead b ending letters card base next told (inl none) is = subst (IsTold m Stands HasNumber letter dead b ending letters card base) (sym none) tt
+      → (told ≢ Nothing → IsShifting m Stands HasNumber letter dead b ending letters card base next) → IsToldByNumber m Stands HasNumber letter dead b ending letters card base told
+  told_by HasNumber letter dead b ending letters card base next told (inl none) is = subst (IsToldByNumber m Stands HasNumber letter dead b ending letters card base) (sym none) tt
   told_by HasNumber letter dead b ending letters card base next told (inr some) is =
-      subst (IsTold m Stands HasNumber letter dead b ending letters card base) (sym some) (is (λ none. shifts-nothing next (sym some ∙ none)))
+      subst (IsToldByNumber m Stands HasNumber letter dead b ending letters card base) (sym some) (is (λ none. shifts-nothing next (sym some ∙ none)))
 
   -- that the slot is in the lists of one letter needn't be asked
   pub shifts_all : (HasNumber : S → ℕ → Type 0) (letter : ℕ) (dead : List Bool) (b : Binding) (ending : List ℕ) (letters others : ℕ) (card : Card) (base : Stored S) (next : ℕ)

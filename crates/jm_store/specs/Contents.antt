@@ -14,7 +14,7 @@ use Rattle.jm_monitors.specs.Steps.{AreMarksAfter, NoneCutAbove, IsThinned, AreS
 use Rattle.jm_store.specs.declared.moves.Move.{Move}
 use Rattle.jm_store.specs.declared.moves.Plan.{Plan}
 use Rattle.jm_store.specs.Slots.{monitor_at, stored_in}
-use Rattle.jm_store.specs.Moves.{after_move, after_moves, pairs_after, AreApart, IsEnding, AreEnding, EndsFewer, IsNext, IsSwept, AreVisited, has_all, IsAtRest}
+use Rattle.jm_store.specs.Moves.{is_marked, after_move, after_moves, pairs_after, AreApart, IsEnding, AreEnding, EndsFewer, IsNext, IsSwept, AreVisited, has_all, IsAtRest}
 use Rattle.jm_store.specs.Listed.{AreLeftOf}
 
 -- The monitors by slot, the marks, whether a plan is open, and the index, which has a pair for each monitor. What the
@@ -103,7 +103,7 @@ IsPlannedBy {S} moves pair = (move : Move S) × Contains moves move × (move.slo
 -- leads has a monitor, or one of the moves is for it. Its binding is a mark where it says so. It has its answer twice.
 pub record IsPlanFor {S : Type 0} (store : Contents S) (plan : Plan S) : Type 0 where
   pub twice : plan.copy ≡ plan.answer
-  pub known : IsTrue plan.known → Contains store.marks plan.binding
+  pub known : IsTrue (is_marked plan.status) → Contains store.marks plan.binding
   pub apart : AreApart plan.moves.items
   pub placed : (move : Move S) (k : ℕ) → Contains plan.moves.items move → move.slot ≡ Some k
       → Contains store.index.list (record { binding = move.monitor.instance; slot = k })

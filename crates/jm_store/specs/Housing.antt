@@ -28,7 +28,7 @@ pub record AreDomains (domains : List Mask) (pairs : List Pair) : Type 0 where
 
 -- what lies in memory fits together; where no plan is open, each pair's slot has a monitor, and where one is open there
 -- is room for a mark
-pub record IsKept {S : Type 0} (slots : List (Slot S)) (pairs : List Pair) (listed : List Mask) (is_open : Bool)
+pub record FitsTogether {S : Type 0} (slots : List (Slot S)) (pairs : List Pair) (listed : List Mask) (is_open : Bool)
     (spare : ℕ) : Type 0 where
   pub housed : IsHoused slots pairs
   pub domains : AreDomains listed pairs

@@ -12,6 +12,8 @@ use Rattle.jm_marks.specs.Marks.{dead_mask_of}
 use Rattle.jm_monitors.specs.declared.stored.Stored.{Stored}
 use Rattle.jm_monitors.specs.Steps.{Follows, IsBase, IsOverAfter, IsCutState, IsAliveState, IsResting}
 use Rattle.jm_index.specs.Index.{Pair, AreBelow, asked_slots, without}
+use Rattle.jm_store.specs.declared.event.MarkStatus.{MarkStatus}
+use Rattle.jm_store.specs.declared.event.MarkStatus.TheVariants.{Marked, Unmarked}
 use Rattle.jm_store.specs.declared.moves.Move.{Move}
 use Rattle.jm_store.specs.Slots.{monitor_at}
 
@@ -101,6 +103,11 @@ pub record AreSifted {X Y Z : Type 0} (R : X → Option Y → Type 0) (Q : X →
   pub given : AreGiven R told ys
   pub read : AreGiven Q others zs
   pub none : (x : X) → Contains rests x → R x None
+
+-- whether the binding of an event is a mark already
+abbrev pub is_marked : MarkStatus → Bool
+is_marked Marked = true
+is_marked Unmarked = false
 
 -- Whether an event reads the monitors with this set of parameters: those that it can lie below; and others where its
 -- binding is no mark, unless it ends all of them.

@@ -97,10 +97,10 @@ module _ (m : Meaning) {S : Type 0} (Stands : S → Word → Type 0) (HasNumber 
           → IsOverAfter m Stands e after 0
 
     -- what the number of a monitor's state tells, by the card of its slot
-    abbrev pub IsTold : Mask → Card → Stored S → Told → Type 0
-    IsTold letters card base (Shifts number) = IsShifting letters card base number
-    IsTold letters card base Rests = IsAtRest m Stands letter b dead base
-    IsTold letters card base Nothing = Unit {0}
+    abbrev pub IsToldByNumber : Mask → Card → Stored S → Told → Type 0
+    IsToldByNumber letters card base (Shifts number) = IsShifting letters card base number
+    IsToldByNumber letters card base Rests = IsAtRest m Stands letter b dead base
+    IsToldByNumber letters card base Nothing = Unit {0}
 
     -- what the event makes of the monitor of a slot: another number, or nothing, since the monitor rests
     abbrev pub IsShiftIn : Lists → ℕ → Option (Stored S) → Option Shift → Type 0

@@ -5,7 +5,7 @@ ghost use Rattle.jm_model.specs.Bindings.{is_compatible, is_below, mask_of, join
 ghost use Rattle.jm_model.specs.Meanings.{IsHit};
 ghost use Rattle.jm_marks.specs.Marks.{dead_mask_of};
 ghost use Rattle.jm_monitors.specs.Steps.{IsResting, IsAliveState};
-ghost use Rattle.jm_store.specs.Moves.{IsRead, is_asked};
+ghost use Rattle.jm_store.specs.Moves.{IsRead, is_asked, is_marked};
 
 use crate::moves::{Move, is_resting};
 use jm_marks::{Marks, dead_mask};
@@ -22,11 +22,33 @@ pub struct Call<'a, M: Monitor> {
     pub binding: &'a Binding,
 }
 
+/// Whether the binding of an event is a mark already.
+#[derive(Clone, Copy)]
+pub enum MarkStatus {
+    /// It is one.
+    Marked,
+    /// It becomes one by the event.
+    Unmarked,
+}
+
+impl MarkStatus {
+    /// Whether the binding is a mark already.
+    #[inline(always)]
+    pub fn is_marked(self) -> bool
+        ensures { result ≡ is_marked self }
+    {
+        match self {
+            MarkStatus::Marked => true,
+            MarkStatus::Unmarked => false,
+        }
+    }
+}
+
 /// An event as its caller asks for it, of which it is known whether its binding is a mark.
 #[derive(Drop)]
 pub(crate) struct KnownCall<'a, M: Monitor> {
     pub(crate) call: &'a Call<'a, M>,
-    pub(crate) known: bool,
+    pub(crate) status: MarkStatus,
 }
 
 /// An event, and what it is worked out with.
@@ -38,7 +60,7 @@ pub(crate) struct Event<'a, M: Monitor> {
     pub(crate) letter: Letter,
     pub(crate) binding: &'a Binding,
     /// Whether the binding is a mark.
-    pub(crate) known: bool,
+    pub(crate) status: MarkStatus,
 }
 
 /// An event of whose monitors there is a list, and the list's place.
@@ -53,11 +75,12 @@ impl<M: Monitor> Event<'_, M> {
     /// the binding is a mark, it makes no new instance.
     pub(crate) fn asks(&self, ending: u32, domain: u8) -> bool
         requires { self.now.letter.0 < (M.meaning (M.definition self.now.rules.now)).letters }
-        ensures { result ≡ is_asked self.now.known (bit_at ending self.now.letter.0 == 1) self.now.binding.now domain }
+        ensures { result ≡ is_asked (is_marked self.now.status) (bit_at ending self.now.letter.0 == 1)
+            self.now.binding.now domain }
     {
         let mask = self.binding.mask();
         let _letters = self.rules.letters();
-        mask & domain == mask || (!self.known && (ending >> self.letter.0) % 2 != 1)
+        mask & domain == mask || (!self.status.is_marked() && (ending >> self.letter.0) % 2 != 1)
     }
 
     /// What the monitor of a slot becomes, or the new instance that it makes, if it does either. One that is at rest is
@@ -69,7 +92,7 @@ impl<M: Monitor> Event<'_, M> {
         base: &Stored<M::State>,
     ) -> Result<Option<Move<M::State>>, NoMemory>
         requires letter { self.now.letter.0 < (M.meaning (M.definition self.now.rules.now)).letters }
-        requires known { IsTrue self.now.known ↔ Contains self.now.marks.now.list self.now.binding.now }
+        requires known { IsTrue (is_marked self.now.status) ↔ Contains self.now.marks.now.list self.now.binding.now }
         requires compatible { IsTrue (is_compatible base.now.instance self.now.binding.now) }
         ensures { IfOk result
             (IsRead (M.meaning (M.definition self.now.rules.now)) (M.StandsFor self.now.rules.now)
@@ -94,7 +117,7 @@ impl<M: Monitor> Event<'_, M> {
             }));
         }
         let instance = base.instance.join(self.binding);
-        if self.known || !self.marks.covers(&instance, &base.instance) {
+        if self.status.is_marked() || !self.marks.covers(&instance, &base.instance) {
             return Ok(None);
         }
         let state = self.rules.next(&base.state, self.letter)?;

@@ -20,7 +20,7 @@ mod store;
 mod waking;
 mod walk;
 
-pub use event::Call;
+pub use event::{Call, MarkStatus};
 pub use laws::death_keeps_store;
 pub use moves::{Move, Plan};
 pub use store::{Done, Store};

@@ -3,6 +3,7 @@ ghost use Rattle.std.specs.Prelude.{◌≡◌, ◌<◌, IsTrue, None, Contains};
 ghost use Rattle.jm_monitors.specs.Steps.{IsResting};
 ghost use Rattle.jm_store.specs.declared.moves.Move.{Move as Change};
 
+use crate::event::MarkStatus;
 use jm_model::{Binding, Firings, Letter, Monitor};
 use jm_monitors::Stored;
 
@@ -25,7 +26,7 @@ pub struct Move<S> {
 pub struct Plan<S> {
     pub(crate) binding: Binding,
     /// Whether the binding is a mark already.
-    pub(crate) known: bool,
+    pub(crate) status: MarkStatus,
     pub(crate) moves: Vec<Move<S>>,
     /// How many monitors were met, those at rest among them.
     pub(crate) met: usize,

@@ -67,7 +67,7 @@ impl<M: Monitor> Drop for Store<M> {
 impl<M: Monitor> Model for Store<M> {
     ghost use Rattle.jm_store.specs.Slots.{monitors_of};
     ghost use Rattle.jm_store.specs.Contents.{Contents};
-    ghost use Rattle.jm_store.specs.Housing.{IsKept};
+    ghost use Rattle.jm_store.specs.Housing.{FitsTogether};
 
     ghost Value = { Contents M.State };
 
@@ -79,7 +79,7 @@ impl<M: Monitor> Model for Store<M> {
       ending = s.ending;
     } };
 
-    ghost invariant = { λ s. IsKept s.monitors.slots s.index.list s.domains.items s.is_open s.marks.spare };
+    ghost invariant = { λ s. FitsTogether s.monitors.slots s.index.list s.domains.items s.is_open s.marks.spare };
 }
 
 impl<M: Monitor> Store<M> {

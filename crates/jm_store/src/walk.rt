@@ -9,9 +9,9 @@ ghost use Rattle.jm_awake.specs.Awake.{fresh, slots_there, IsOn};
 ghost use Rattle.jm_index.specs.Index.{AreLive};
 ghost use Rattle.jm_marks.specs.Marks.{dead_mask_of, is_dead_object};
 ghost use Rattle.jm_store.specs.Slots.{monitors_of, monitor_at};
-ghost use Rattle.jm_store.specs.Moves.{AreNone, AreSifted, IsPushed, IsReadAt};
+ghost use Rattle.jm_store.specs.Moves.{is_marked, AreNone, AreSifted, IsPushed, IsReadAt};
 ghost use Rattle.jm_store.specs.Walks.{AreRows, AreAliveBut, EndsAll, IsShiftAt, no_turn, AreTurns, EndsLike};
-ghost use Rattle.jm_store.specs.Walks.{AreAmong, AreReadable, AsksAll, CanWalk, IsTold};
+ghost use Rattle.jm_store.specs.Walks.{AreAmong, AreReadable, AsksAll, CanWalk, IsToldByNumber};
 ghost use Rattle.jm_store.specs.declared.walk.Told.TheVariants.{Shifts, Nothing};
 
 use crate::event::Event;
@@ -121,7 +121,8 @@ impl<M: Monitor> Walk<'_, M> {
     ) -> Option<usize>
         requires can { CanWalk (M.meaning (M.definition self.now.event.now.rules.now)) (M.StandsFor
             self.now.event.now.rules.now) (M.HasNumber self.now.event.now.rules.now) self.now.event.now.letter.0
-            self.now.plain.now self.now.endings.now self.now.event.now.known self.now.event.now.marks.now.list
+            self.now.plain.now self.now.endings.now (is_marked self.now.event.now.status)
+            self.now.event.now.marks.now.list
             self.now.event.now.binding.now }
         requires asks { AsksAll self.now.event.now.objects.now self.now.event.now.binding.now
             self.now.event.now.letter.0 self.now.awake.now.letters asked }
@@ -199,7 +200,7 @@ impl<M: Monitor> Walk<'_, M> {
         requires among { AreAmong self.now.ending.now (mask_of base.now.instance) self.now.ends }
         requires turns { AreTurns self.now.plain.now self.now.ends self.now.endings.now turns.old }
         ensures turns { AreTurns self.now.plain.now self.now.ends self.now.endings.now turns.new }
-        ensures told { IsTold (M.meaning (M.definition self.now.event.now.rules.now)) (M.StandsFor
+        ensures told { IsToldByNumber (M.meaning (M.definition self.now.event.now.rules.now)) (M.StandsFor
             self.now.event.now.rules.now) (M.HasNumber self.now.event.now.rules.now) self.now.event.now.letter.0
             self.now.event.now.objects.now self.now.event.now.binding.now self.now.ending.now asked.letters card.now
             base.now result }
@@ -260,7 +261,7 @@ impl<M: Monitor> Walk<'_, M> {
         moves: &mut Vec<Move<M::State>>,
     ) -> Result<(), NoMemory>
         requires low { self.now.event.now.letter.0 < (M.meaning (M.definition self.now.event.now.rules.now)).letters }
-        requires known { IsTrue self.now.event.now.known
+        requires known { IsTrue (is_marked self.now.event.now.status)
             ↔ Contains self.now.event.now.marks.now.list self.now.event.now.binding.now }
         requires below { is_below self.now.event.now.binding.now base.now.instance ≡ true }
         requires at_key { monitor_at (monitors_of self.now.slots.items.now) slot ≡ Some base.now }

@@ -38,7 +38,7 @@ use Rattle.jm_inputs.specs.declared.specification.CompiledSpec.{CompiledSpec}
 use Rattle.jm_inputs.specs.declared.spec_set.SpecSet.{SpecSet}
 use Rattle.jm_inputs.specs.declared.scripts.Scripts.{Scripts}
 use Rattle.jm_inputs.specs.Scripts.{catalog_of}
-use Rattle.jm_inputs.specs.Reading.{named_entry, listing, listed, listed_in, AreRulesOf, titled, specification_of, IsWhole, specs_in, IsCatalogued, AreCounted}
+use Rattle.jm_inputs.specs.Reading.{named_entry, listing, listed, listed_in, AreRulesOf, titled, specification_of, FitsEntry, specs_in, IsCatalogued, AreCounted}
 use Rattle.jm_sync.specs.declared.line.SyncLine.{SyncLine}
 use Rattle.jm_sync.specs.declared.line.Cut.{Cut}
 use Rattle.jm_sync.specs.Checks.{AreSound, sync_of}
@@ -286,8 +286,8 @@ module _ (spec_set : SpecSet) (catalogued : IsCatalogued spec_set) (rest : List 
   pub alone_is : specs_in spec_set ≡ specification_of (listing (named_entry name table) l) ∷ []
   alone_is = ap (λ v. map specification_of v) alone
 
-  pub alone_whole : IsWhole (listing (named_entry name table) l)
-  alone_whole = All-head IsWhole (listing (named_entry name table) l) [] (subst (All IsWhole) alone catalogued.kept)
+  pub alone_whole : FitsEntry (listing (named_entry name table) l)
+  alone_whole = All-head FitsEntry (listing (named_entry name table) l) [] (subst (All FitsEntry) alone catalogued.kept)
 
   pub alone_there : table_of (catalog_of (specs_in spec_set)) 0 ≡ table
   alone_there = ap (λ v. table_of (catalog_of v) 0) alone_is

@@ -33,7 +33,7 @@ use Rattle.jm_inputs.specs.declared.spec_set.SpecSet.{SpecSet}
 use Rattle.jm_inputs.specs.declared.scripts.Scripts.{Scripts}
 use Rattle.jm_inputs.specs.Specifications.{Specification}
 use Rattle.jm_inputs.specs.Scripts.{entry_of, catalog_of}
-use Rattle.jm_inputs.specs.Reading.{Listed, listing, listed, titled, listed_in, specification_of, IsWhole, specs_in, IsCatalogued, AreCounted}
+use Rattle.jm_inputs.specs.Reading.{Listed, listing, listed, titled, listed_in, specification_of, FitsEntry, specs_in, IsCatalogued, AreCounted}
 use Rattle.jm_top.specs.Histories.{lexicon, IsHistoryOf, AreHistoriesFrom, IsTextOfOrdered, summaries_of, IsTextOfSummaries}
 use Rattle.jm_top.specs.Runs.{IsWatchOf, AreWatchesOf, AreRunsOf}
 use Rattle.jm_inputs.proofs.OneReadingLemmas.{same_some}
@@ -65,8 +65,8 @@ projected catalog names number scripts fit =
     (All-weaker (FitsCatalog catalog names) (λ script. All (λ (step : ℕ × Step). FitsSpecification catalog names number step.1) (projection_of (script_of script) number)) (λ script fits. projection_fits catalog names number script fits) scripts fit)
 
 module _ (spec_set : SpecSet) (scripts : Scripts) (catalogued : IsCatalogued spec_set) (counted : AreCounted (specs_in spec_set) scripts) (k : ℕ) (l : Listed) (at : slice_get (listed_in spec_set) k ≡ Some l) where
-  whole_at : IsWhole l
-  whole_at = All-at IsWhole (listed_in spec_set) k l catalogued.kept at
+  whole_at : FitsEntry l
+  whole_at = All-at FitsEntry (listed_in spec_set) k l catalogued.kept at
 
   -- so they can be run
   pub fitting_at : All (λ steps. AreFitSteps (rules_meaning l.rules.definition) (length scripts.objects) steps) (projections_of scripts.list.items k)

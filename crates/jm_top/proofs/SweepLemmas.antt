@@ -12,7 +12,7 @@ use Rattle.jm_model.specs.declared.step.Entry.{Entry}
 use Rattle.jm_events.specs.Events.{EventDefinitions}
 use Rattle.jm_machine.specs.Meanings.{rules_meaning}
 use Rattle.jm_print.specs.Texts.{IsPrintable}
-use Rattle.jm_script.specs.Answers.{IsWhole, IsRefused}
+use Rattle.jm_script.specs.Answers.{IsReadWhole, IsRefused}
 use Rattle.jm_script.specs.Catalogs.{CatalogEntry, table_of}
 use Rattle.jm_script.specs.Fitting.{FitsSpecification}
 use Rattle.jm_script.specs.Meanings.{ScriptMeaning, script_meaning}
@@ -33,7 +33,7 @@ use Rattle.jm_inputs.specs.Reading.{named_entry, titled, AreRulesOf, specs_in}
 use Rattle.jm_inputs.specs.Recordings.{SayParts}
 use Rattle.jm_top.specs.Replays.{IsReplayOf, IsPrintedReplay}
 use Rattle.jm_inputs.specs.Causes.{IsNoScriptIn, IsNoRecordingIn}
-use Rattle.jm_top.specs.Sweeps.{IsOfOne, CanReplay, IsPieceOf, HasPart, IsSwept, IsSweptWhole}
+use Rattle.jm_top.specs.Sweeps.{IsOfOne, CanReplay, IsPieceOf, HasPart, IsSweptSoFar, IsSweptWhole}
 use Rattle.jm_inputs.proofs.OneReadingLemmas.{same_some}
 use Rattle.jm_top.proofs.HistoryLemmas.{woven, doable, first_of, alone_is, alone_whole, alone_there, replay_printable, replay_text}
 use Rattle.jm_inputs.proofs.RecordingLemmas.{sound_later}
@@ -59,7 +59,7 @@ module _ (specs : List Specification) (catalog : List CatalogEntry) (over : cata
   same : script_meaning catalog count bytes [] ≡ meaning_over specs count [] bytes
   same = ap (λ v. script_meaning v count bytes []) over
 
-  pub part_said : (script : List ScriptLine) (objects : List (List ℕ)) (count_then : ℕ) → IsWhole (script_meaning catalog count bytes []) count script objects count_then → IsScript specs count [] bytes script objects
+  pub part_said : (script : List ScriptLine) (objects : List (List ℕ)) (count_then : ℕ) → IsReadWhole (script_meaning catalog count bytes []) count script objects count_then → IsScript specs count [] bytes script objects
   part_said script objects count_then whole = record {
     small = small;
     sound = ap (λ (m : ScriptMeaning). m.fault) (sym same) ∙ whole.sound;
@@ -155,14 +155,14 @@ at_place (y ∷ xs) (suc i) x at = at_place xs i x at
 
 module _ (spec_set : SpecSet) (bytes : List ℕ) (spans : List (ℕ × ℕ)) (split : map (span_text bytes) spans ≡ parts_of bytes) where
   -- a turn
-  pub turn_ok : (i : ℕ) (span : ℕ × ℕ) → i < length spans → span ≡ get_or spans i span → (count : ℕ) (old new : List ℕ) (count_then : ℕ) → IsSwept (specs_in spec_set) (map (span_text bytes) (take i spans)) count old
-      → HasPart (specs_in spec_set) count (span_text bytes span) old new count_then → IsSwept (specs_in spec_set) (map (span_text bytes) (take (i + 1) spans)) count_then new
+  pub turn_ok : (i : ℕ) (span : ℕ × ℕ) → i < length spans → span ≡ get_or spans i span → (count : ℕ) (old new : List ℕ) (count_then : ℕ) → IsSweptSoFar (specs_in spec_set) (map (span_text bytes) (take i spans)) count old
+      → HasPart (specs_in spec_set) count (span_text bytes span) old new count_then → IsSweptSoFar (specs_in spec_set) (map (span_text bytes) (take (i + 1) spans)) count_then new
   turn_ok i span lt here count old new count_then before h =
       let more : map (span_text bytes) (take (i + 1) spans) ≡ map (span_text bytes) (take i spans) ++ span_text bytes span ∷ [] =
       ap (map (span_text bytes)) (take_more spans i span lt ∙ ap (λ v. take i spans ++ v ∷ []) (sym here)) ∙ map-append (span_text bytes) (take i spans) (span ∷ []) in
-      subst (λ v. IsSwept (specs_in spec_set) v count_then new) (sym more) (swept_more (specs_in spec_set) (map (span_text bytes) (take i spans)) count old (span_text bytes span) new count_then before h)
+      subst (λ v. IsSweptSoFar (specs_in spec_set) v count_then new) (sym more) (swept_more (specs_in spec_set) (map (span_text bytes) (take i spans)) count old (span_text bytes span) new count_then before h)
 
-  pub turn_err : length bytes ≤ most_bytes → (i : ℕ) (span : ℕ × ℕ) → i < length spans → span ≡ get_or spans i span → (count : ℕ) (old : List ℕ) → IsSwept (specs_in spec_set) (map (span_text bytes) (take i spans)) count old → (status : Status)
+  pub turn_err : length bytes ≤ most_bytes → (i : ℕ) (span : ℕ × ℕ) → i < length spans → span ≡ get_or spans i span → (count : ℕ) (old : List ℕ) → IsSweptSoFar (specs_in spec_set) (map (span_text bytes) (take i spans)) count old → (status : Status)
       → IsNoScriptIn (specs_in spec_set) count [] i (span_text bytes span) status → IsNoRecordingIn (specs_in spec_set) bytes status
   turn_err small i span lt here count old before (BadScript number fault) h =
       let whole : spans ≡ take i spans ++ span ∷ drop (i + 1) spans = sym (take-append-drop i spans) ∙ ap (λ v. take i spans ++ v) (drop_more spans i span lt ∙ ap (λ v. v ∷ drop (i + 1) spans) (sym here)) in
@@ -178,7 +178,7 @@ module _ (spec_set : SpecSet) (bytes : List ℕ) (spans : List (ℕ × ℕ)) (sp
   turn_err small i span lt here count old before WriteFailed h = absurd h
   turn_err small i span lt here count old before BadHistory h = absurd h
 
-  pub all_turns : length bytes ≤ most_bytes → (i : ℕ) → length spans ≤ i → (count : ℕ) (text : List ℕ) → IsSwept (specs_in spec_set) (map (span_text bytes) (take i spans)) count text → IsSweptWhole (specs_in spec_set) bytes text
+  pub all_turns : length bytes ≤ most_bytes → (i : ℕ) → length spans ≤ i → (count : ℕ) (text : List ℕ) → IsSweptSoFar (specs_in spec_set) (map (span_text bytes) (take i spans)) count text → IsSweptWhole (specs_in spec_set) bytes text
   all_turns small i all count text h =
       let whole : map (span_text bytes) (take i spans) ≡ parts_of bytes = ap (map (span_text bytes)) (take_all i spans all) ∙ split in
       record {

@@ -39,7 +39,7 @@ pub record HasPart (specs : List Specification) (count : ℕ) (bytes old new : T
   pub is_text : IsTextOfHistories specs (part.script ∷ []) part.objects text
 
 -- these are the parts that the texts say, how many steps they have, and their text
-pub record IsSwept (specs : List Specification) (texts : List Text) (count : ℕ) (text : Text) : Type 0 where
+pub record IsSweptSoFar (specs : List Specification) (texts : List Text) (count : ℕ) (text : Text) : Type 0 where
   pub parts : List RecordedPart
   pub said : SayParts specs 0 texts parts
   pub counted : count ≡ steps_of_parts parts

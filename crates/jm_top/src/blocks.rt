@@ -4,7 +4,7 @@ ghost use Rattle.std.specs.List.{flat_map};
 ghost use Rattle.jm_semantics.specs.Families.{IsFamily};
 ghost use Rattle.jm_top.specs.Texts.{declared_text, IsTextOfFamily, IsTextOfFamilies};
 ghost use Rattle.jm_machine.specs.Meanings.{has_grammar, rules_meaning};
-ghost use Rattle.jm_inputs.specs.Reading.{named_entry, listing, listed, specification_of, IsWhole};
+ghost use Rattle.jm_inputs.specs.Reading.{named_entry, listing, listed, specification_of, FitsEntry};
 
 use jm_events::EventTable;
 use jm_inputs::CompiledSpec;
@@ -67,7 +67,7 @@ pub(crate) fn families(
     specs: &[CompiledSpec],
 ) -> Result<Vec<u8>, NoMemory>
     requires many { length catalog.now ≡ length specs.now }
-    requires whole { All IsWhole (listed catalog.now specs.now) }
+    requires whole { All FitsEntry (listed catalog.now specs.now) }
     requires tables { All (λ l. has_grammar l.rules.definition.properties ≡ false) (listed catalog.now specs.now) }
     ensures { IfOk result (λ text. IsTextOfFamilies (map specification_of (listed catalog.now specs.now)) text.items) }
 {
@@ -92,7 +92,7 @@ fn families_text(
     table: &EventTable,
     compiled: &CompiledSpec,
 ) -> Result<Vec<u8>, NoMemory>
-    requires whole { IsWhole (listing (named_entry name.now table.now) compiled.now) }
+    requires whole { FitsEntry (listing (named_entry name.now table.now) compiled.now) }
     requires table { has_grammar compiled.now.rules.definition.properties ≡ false }
     ensures { IfOk result (λ text. IsTextOfFamily
         (specification_of (listing (named_entry name.now table.now) compiled.now)) text.items) }

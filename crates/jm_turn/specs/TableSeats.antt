@@ -62,12 +62,12 @@ module _ {V E F : Type 0} where
   HasDrawn r m m' = (t : ℕ) × (t % 2 ^ 64 ≡ r) × (m' ≡ (with_ticket t m.0, []))
 
   -- the seat holds the value y
-  abbrev pub Holds : Me (Option V) (View E F) → V → Type 0
-  Holds m y = m.1 ≡ (0, Some y) ∷ []
+  abbrev pub HoldsValue : Me (Option V) (View E F) → V → Type 0
+  HoldsValue m y = m.1 ≡ (0, Some y) ∷ []
 
   -- the holder has given back the value that it held, and has seen its list
   abbrev pub HasPassedOn : (V → List E) → Me (Option V) (View E F) → Me (Option V) (View E F) → Type 0
-  HasPassedOn entries m m' = (y : V) → Holds m y → m' ≡ (without_turn (entries y) m.0, [])
+  HasPassedOn entries m m' = (y : V) → HoldsValue m y → m' ≡ (without_turn (entries y) m.0, [])
 
 module _ {V E F : Type 0} (entries : V → List E) (caller : E → ℕ) (part : V → F) where
   -- an act of the number n gave the answer, and changed the value that the seat holds: its list has one entry more
@@ -76,7 +76,7 @@ module _ {V E F : Type 0} (entries : V → List E) (caller : E → ℕ) (part : 
     pub before : V
     pub after : V
     pub entry : E
-    pub held : Holds m before
+    pub held : HoldsValue m before
     pub holds : m' ≡ (m.0, (0, Some after) ∷ [])
     pub longer : entries after ≡ entries before ++ entry ∷ []
     pub mine : caller entry ≡ n

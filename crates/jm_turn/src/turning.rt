@@ -2,7 +2,7 @@
 //! passes the turn on.
 ghost use Rattle.std.specs.Prelude.{◌≡◌, ℕ, [], ◌∷◌, Some};
 ghost use Rattle.jm_turn.specs.Steps.{TurnComes};
-ghost use Rattle.jm_turn.specs.TableSeats.{HasActed, HasDrawn, HasPassedOn, HasRun, Holds, IsIdle, IsSameSeat, IsShaped, IsWaiting, lock_over};
+ghost use Rattle.jm_turn.specs.TableSeats.{HasActed, HasDrawn, HasPassedOn, HasRun, HoldsValue, IsIdle, IsSameSeat, IsShaped, IsWaiting, lock_over};
 
 use crate::kept::{Act, Kept};
 use crate::rule::{SERVING, SharedTable, TICKET, TableSeat, VALUE};
@@ -76,7 +76,7 @@ pub fn run_act<V: Kept + Drop, A: Act<V>>(
 ) -> A::Answer
     requires shape { IsShaped table.now.table_id }
     requires seat { place.old.table_id ≡ table.now.table_id }
-    requires holder { (y : V) × Holds place.old.me y × A.suits act (V.fixed_part y) }
+    requires holder { (y : V) × HoldsValue place.old.me y × A.suits act (V.fixed_part y) }
     ensures unchanged { IsSameSeat place.old place.new }
     ensures run { HasRun V.entries V.caller_of V.fixed_part (A.number act) (A.relates act) result
         place.old.me place.new.me }

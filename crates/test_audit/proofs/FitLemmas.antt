@@ -27,7 +27,7 @@ use Rattle.jm_inputs.specs.declared.specification.CompiledSpec.{CompiledSpec}
 use Rattle.jm_inputs.specs.declared.spec_set.SpecSet.{SpecSet}
 use Rattle.jm_inputs.specs.declared.scripts.Scripts.{Scripts}
 use Rattle.jm_inputs.specs.Scripts.{entry_of, catalog_of}
-use Rattle.jm_inputs.specs.Reading.{Listed, named_entry, listing, listed, listed_in, AreRulesOf, specification_of, IsWhole, specs_in, IsCatalogued, AreCounted}
+use Rattle.jm_inputs.specs.Reading.{Listed, named_entry, listing, listed, listed_in, AreRulesOf, specification_of, FitsEntry, specs_in, IsCatalogued, AreCounted}
 use Rattle.jm_audit.specs.Allowed.{steps_on}
 use Rattle.jm_audit.specs.Sheets.{IsFit, AreFit, FitSheets}
 
@@ -148,7 +148,7 @@ own_fits spec_set scripts catalogued counted n name table l named there here =
     let entry : CatalogEntry = named_entry name table in
     let catalog : List CatalogEntry = catalog_of (specs_in spec_set) in
     let at : slice_get (listed_in spec_set) n ≡ Some (listing entry l) = listed_at spec_set.catalog spec_set.specs.items n name table l catalogued.many named there here in
-    let whole : AreRulesOf entry rules = All-at IsWhole (listed_in spec_set) n (listing entry l) catalogued.kept at in
+    let whole : AreRulesOf entry rules = All-at FitsEntry (listed_in spec_set) n (listing entry l) catalogued.kept at in
     let table_there : table_of catalog n ≡ table = table_at (listed_in spec_set) n (listing entry l) at in
     record {
       handlers = omega (arith, count_names rules);

@@ -7,7 +7,7 @@ ghost use Rattle.jm_index.specs.Index.{Pair, asked_slots, AreBelow, AreLive, IsF
 ghost use Rattle.jm_monitors.specs.declared.stored.Stored.{Stored as Kept};
 ghost use Rattle.jm_monitors.specs.Steps.{AreMarksAfter};
 ghost use Rattle.jm_store.specs.Slots.{monitor_at};
-ghost use Rattle.jm_store.specs.Moves.{AreGiven, IsReadAt, IsCompatibleAt, AreMovesRead, asks_by, EndsFewer, IsEnding};
+ghost use Rattle.jm_store.specs.Moves.{AreGiven, IsReadAt, IsCompatibleAt, AreMovesRead, asks_by, is_marked, EndsFewer, IsEnding};
 ghost use Rattle.jm_store.specs.Contents.{stored_of, with_ending, with_open, IsFit, IsFilled, ArePlaced, ArePaired, IsPlacedOne, KeepsContents, KeepsAllButMarks, StaysClosed, StaysFit, IsAbove};
 ghost use Rattle.jm_store.specs.Listed.{KeepListed};
 ghost use Rattle.jm_store.specs.Plans.{CanPlan, Advances, IsSilent, IsStepDone, IsSlotDone};
@@ -15,7 +15,7 @@ ghost use Rattle.jm_store.specs.Plans.{CanPlan, Advances, IsSilent, IsStepDone, 
 use super::Store;
 use super::reach::make_room;
 use crate::ending::end_fewer;
-use crate::event::{Call, Event, KnownCall};
+use crate::event::{Call, Event, KnownCall, MarkStatus};
 use crate::moves::{MANY, Move};
 use crate::report::report_one;
 use crate::waking::{follow, wake};
@@ -49,10 +49,14 @@ impl Done {
 
 impl<M: Monitor> Store<M> {
     /// Whether a binding is a mark.
-    pub fn is_mark(&self, binding: &Binding) -> bool
-        ensures { IsTrue result ↔ Contains self.now.marks binding.now }
+    pub fn status_of(&self, binding: &Binding) -> MarkStatus
+        ensures { IsTrue (is_marked result) ↔ Contains self.now.marks binding.now }
     {
-        self.marks.contains(binding)
+        if self.marks.contains(binding) {
+            MarkStatus::Marked
+        } else {
+            MarkStatus::Unmarked
+        }
     }
 
     /// Does an event, if it moves one monitor at most and makes none, or makes one and moves none, unless out of
@@ -62,12 +66,12 @@ impl<M: Monitor> Store<M> {
         &mut self,
         call: &Call<'_, M>,
         awake: &mut Awake,
-        known: bool,
+        status: MarkStatus,
         steps: &mut Steps<L>,
     ) -> Option<Done>
         requires can { CanPlan (M.meaning (M.definition call.now.rules.now)) call.now.objects.now call.now.letter.0
             call.now.binding.now self.old }
-        requires known { IsTrue known ↔ Contains self.old.marks call.now.binding.now }
+        requires known { IsTrue (is_marked status) ↔ Contains self.old.marks call.now.binding.now }
         ensures advances { Advances (M.meaning (M.definition call.now.rules.now)) (M.StandsFor call.now.rules.now)
             call.now.objects.now call.now.letter.0 call.now.binding.now self.old self.new result }
         ensures listed { KeepListed (M.meaning (M.definition call.now.rules.now)) (M.StandsFor call.now.rules.now)
@@ -76,8 +80,8 @@ impl<M: Monitor> Store<M> {
             (stored_of self.old) }
     {
         let mut slots = self.take_slots();
-        let asked = KnownCall { call, known };
-        let done = if known {
+        let asked = KnownCall { call, status };
+        let done = if status.is_marked() {
             match self.only_slot_above(call.objects, call.binding, &mut slots) {
                 Some(Some(slot)) => self.advance_slot(call, awake, slot, steps),
                 Some(None) => Some(Done::nothing(*self.domains.allocator())),
@@ -208,7 +212,7 @@ impl<M: Monitor> Store<M> {
     ) -> Option<Done>
         requires can { CanPlan (M.meaning (M.definition asked.now.call.now.rules.now)) asked.now.call.now.objects.now
             asked.now.call.now.letter.0 asked.now.call.now.binding.now self.old }
-        requires known { IsTrue asked.now.known ↔ Contains self.old.marks asked.now.call.now.binding.now }
+        requires known { IsTrue (is_marked asked.now.status) ↔ Contains self.old.marks asked.now.call.now.binding.now }
         ensures advances { Advances (M.meaning (M.definition asked.now.call.now.rules.now)) (M.StandsFor
             asked.now.call.now.rules.now) asked.now.call.now.objects.now asked.now.call.now.letter.0
             asked.now.call.now.binding.now self.old self.new result }
@@ -225,14 +229,14 @@ impl<M: Monitor> Store<M> {
             marks: &self.marks,
             letter: call.letter,
             binding: call.binding,
-            known: asked.known,
+            status: asked.status,
         };
         match self.find_only(&event, slots, steps)? {
             Some(step) => {
                 self.room_for(&step, slots)?;
-                self.take_step(call, awake, step, asked.known)
+                self.take_step(call, awake, step, asked.status)
             }
-            None => self.take_none(call.binding, asked.known),
+            None => self.take_none(call.binding, asked.status),
         }
     }
 
@@ -247,13 +251,13 @@ impl<M: Monitor> Store<M> {
     ) -> Option<Option<Move<M::State>>>
         requires closed { self.now.is_open ≡ false }
         requires letter { event.now.letter.0 < (M.meaning (M.definition event.now.rules.now)).letters }
-        requires known { IsTrue event.now.known ↔ Contains event.now.marks.now.list event.now.binding.now }
+        requires known { IsTrue (is_marked event.now.status) ↔ Contains event.now.marks.now.list event.now.binding.now }
         requires fits { IsFitting self.now.index event.now.objects.now }
         requires live { AreLive event.now.objects.now event.now.binding.now }
         ensures read { IfSome result (λ only. AreMovesRead (M.meaning (M.definition event.now.rules.now))
             (M.StandsFor event.now.rules.now) event.now.letter.0 event.now.binding.now
             event.now.objects.now event.now.marks.now.list
-            (asks_by event.now.known self.now.ending event.now.letter.0 event.now.binding.now)
+            (asks_by (is_marked event.now.status) self.now.ending event.now.letter.0 event.now.binding.now)
             self.now.monitors (option_to_list only)) }
         ensures steps { steps.new ≤ steps.old + count_by (λ s. is_compatible s.instance event.now.binding.now)
             (stored_of self.now) }
@@ -287,7 +291,7 @@ impl<M: Monitor> Store<M> {
         steps: &mut Steps<L>,
     ) -> Option<()>
         requires letter { event.now.letter.0 < (M.meaning (M.definition event.now.rules.now)).letters }
-        requires known { IsTrue event.now.known ↔ Contains event.now.marks.now.list event.now.binding.now }
+        requires known { IsTrue (is_marked event.now.status) ↔ Contains event.now.marks.now.list event.now.binding.now }
         requires compatible { (k : ℕ) → Contains slots.now k
             → IsCompatibleAt event.now.binding.now (monitor_at self.now.monitors k) }
         ensures read { IfSome result (λ done. (before : List ℕ)
@@ -317,9 +321,9 @@ impl<M: Monitor> Store<M> {
     }
 
     /// Does an event that makes nothing of any monitor, unless out of memory.
-    fn take_none(&mut self, binding: &Binding, known: bool) -> Option<Done>
+    fn take_none(&mut self, binding: &Binding, status: MarkStatus) -> Option<Done>
         requires closed { self.old.is_open ≡ false }
-        requires known { IsTrue known → Contains self.old.marks binding.now }
+        requires known { IsTrue (is_marked status) → Contains self.old.marks binding.now }
         ensures unchanged { IfNone result (self.new ≡ self.old) }
         ensures kept { KeepsAllButMarks self.old self.new }
         ensures closed { self.new.is_open ≡ false }
@@ -329,8 +333,8 @@ impl<M: Monitor> Store<M> {
         ensures silent { IfSome result IsSilent }
     {
         let alloc = *self.domains.allocator();
-        self.open_for(known)?;
-        self.close(binding, known);
+        self.open_for(status)?;
+        self.close(binding, status);
         Some(Done::nothing(alloc))
     }
 
@@ -341,10 +345,11 @@ impl<M: Monitor> Store<M> {
         call: &Call<'_, M>,
         awake: &mut Awake,
         mut step: Move<M::State>,
-        known: bool,
+        status: MarkStatus,
     ) -> Option<Done>
         requires closed { self.old.is_open ≡ false }
-        requires known { IsTrue known → Contains self.old.marks call.now.binding.now × (step.slot ≡ None → ⊥) }
+        requires known { IsTrue (is_marked status) → Contains self.old.marks call.now.binding.now
+            × (step.slot ≡ None → ⊥) }
         requires leads { ArePlaced self.old (step ∷ []) }
         ensures unchanged { IfNone result (KeepsContents self.old self.new) }
         ensures closed { self.new.is_open ≡ false }
@@ -365,23 +370,23 @@ impl<M: Monitor> Store<M> {
         let Ok(copy) = answer.copy() else {
             return None;
         };
-        self.open_for(known)?;
+        self.open_for(status)?;
         self.place_one(&mut step)?;
         self.end_one(call.rules, &step.monitor);
         follow::<M>(awake, &step);
         self.carry_out(step);
-        self.close(call.binding, known);
+        self.close(call.binding, status);
         Some(Done { answer, copy })
     }
 
     /// Makes room for a mark, where the binding isn't known to be one, unless out of memory.
     #[inline(always)]
-    fn open_for(&mut self, known: bool) -> Option<()>
+    fn open_for(&mut self, status: MarkStatus) -> Option<()>
         requires { self.old.is_open ≡ false }
         ensures unchanged { IfNone result (self.new ≡ self.old) }
-        ensures opened { IfSome result (λ done. self.new ≡ with_open self.old (not known)) }
+        ensures opened { IfSome result (λ done. self.new ≡ with_open self.old (not (is_marked status))) }
     {
-        if known {
+        if status.is_marked() {
             return Some(());
         }
         let Ok(()) = self.marks.reserve() else {
@@ -450,9 +455,9 @@ impl<M: Monitor> Store<M> {
 
     /// Makes the binding a mark, where it isn't known to be one.
     #[inline(always)]
-    fn close(&mut self, binding: &Binding, known: bool)
-        requires opened { self.old.is_open ≡ not known }
-        requires known { IsTrue known → Contains self.old.marks binding.now }
+    fn close(&mut self, binding: &Binding, status: MarkStatus)
+        requires opened { self.old.is_open ≡ not (is_marked status) }
+        requires known { IsTrue (is_marked status) → Contains self.old.marks binding.now }
         requires settled { (pair : Pair) → Contains self.old.index.list pair → IsFilled self.old pair }
         ensures kept { KeepsAllButMarks self.old self.new }
         ensures closed { self.new.is_open ≡ false }
@@ -461,7 +466,7 @@ impl<M: Monitor> Store<M> {
             → ((t : Binding) → Contains self.old.marks t → AreBelow (length dead) t)
             → AreBelow (length dead) binding.now → IsFit self.new dead }
     {
-        if !known {
+        if !status.is_marked() {
             self.marks.add(*binding);
             self.is_open = false;
         }

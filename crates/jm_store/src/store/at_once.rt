@@ -6,14 +6,14 @@ ghost use Rattle.jm_model.specs.Bindings.{is_below, is_compatible, mask_of};
 ghost use Rattle.jm_index.specs.Index.{AreLive};
 ghost use Rattle.jm_monitors.specs.declared.stored.Stored.{Stored as Kept};
 ghost use Rattle.jm_store.specs.Slots.{monitor_at};
-ghost use Rattle.jm_store.specs.Moves.{ends_all, AreNone};
+ghost use Rattle.jm_store.specs.Moves.{ends_all, is_marked, AreNone};
 ghost use Rattle.jm_store.specs.Contents.{stored_of, AreReady};
 ghost use Rattle.jm_store.specs.Listed.{slots_listed, AreAtRest, AreListed, HasList, KeepListed};
 ghost use Rattle.jm_store.specs.Plans.{CanPlan, Advances, IsApplied, IsReading};
 
 use super::Store;
 use super::advance::Done;
-use crate::event::{Call, Event, ListedEvent};
+use crate::event::{Call, Event, ListedEvent, MarkStatus};
 use crate::moves::Move;
 use crate::report::report;
 use crate::walk::{Asked, Shift, Sifted, Walk};
@@ -66,7 +66,7 @@ impl<M: Monitor> Store<M> {
             marks: &self.marks,
             letter: call.letter,
             binding: call.binding,
-            known: true,
+            status: MarkStatus::Marked,
         };
         let listed = ListedEvent { event, place };
         let Some(reading) = self.tell_listed(&listed, awake, &mut sifted, steps) else {
@@ -104,7 +104,7 @@ impl<M: Monitor> Store<M> {
     ) -> Option<Reading>
         requires closed { self.now.is_open ≡ false }
         requires letter { listed.now.event.letter.0 < (M.meaning (M.definition listed.now.event.rules.now)).letters }
-        requires known { IsTrue listed.now.event.known ↔ Contains listed.now.event.marks.now.list
+        requires known { IsTrue (is_marked listed.now.event.status) ↔ Contains listed.now.event.marks.now.list
             listed.now.event.binding.now }
         requires live { AreLive listed.now.event.objects.now listed.now.event.binding.now }
         requires list { HasList (M.meaning (M.definition listed.now.event.rules.now)) (M.StandsFor

@@ -3,9 +3,11 @@ ghost use Rattle.std.specs.Prelude.{◌≡◌, ◌≢◌, ℕ, ◌<◌, ◌≤�
 ghost use Rattle.jm_semantics.specs.Traces.{ParametricEvent};
 ghost use Rattle.jm_index.specs.Index.{Pair, AreBelow, IsFitting};
 ghost use Rattle.jm_monitors.specs.Steps.{AreMarksAfter, NoneCutAbove};
+ghost use Rattle.jm_store.specs.Moves.{is_marked};
 ghost use Rattle.jm_store.specs.Contents.{stored_of, IsFit, IsStoreAfter, IsPlanFor, IsPlanOf, IsCarriedOut, IsMoveDone};
 
 use super::Store;
+use crate::event::MarkStatus;
 use crate::moves::{Move, Plan};
 use jm_marks::Marks;
 use jm_model::{Binding, Firings, Monitor};
@@ -29,7 +31,7 @@ impl<M: Monitor> Store<M> {
     {
         let Plan {
             binding,
-            known,
+            status,
             mut moves,
             met: _,
             answer,
@@ -38,7 +40,7 @@ impl<M: Monitor> Store<M> {
         while let Some(step) = moves.pop() {
             self.carry_out(step);
         }
-        add_mark(&mut self.marks, binding, known);
+        add_mark(&mut self.marks, binding, status);
         self.is_open = false;
         self.moves = moves;
         (answer, copy)
@@ -66,12 +68,12 @@ impl<M: Monitor> Store<M> {
 }
 
 /// Adds the binding of an event to the marks, where it isn't known to be one. It takes no memory.
-fn add_mark(marks: &mut Marks, binding: Binding, known: bool)
+fn add_mark(marks: &mut Marks, binding: Binding, status: MarkStatus)
     requires room { 1 ≤ marks.old.spare }
-    requires known { IsTrue known → Contains marks.old.list binding }
+    requires known { IsTrue (is_marked status) → Contains marks.old.list binding }
     ensures { AreMarksAfter binding marks.old.list marks.new.list }
 {
-    if !known {
+    if !status.is_marked() {
         marks.add(binding);
     }
 }

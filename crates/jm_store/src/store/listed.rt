@@ -6,13 +6,13 @@ ghost use Rattle.jm_index.specs.Index.{AreLive, IsFitting, flag_of};
 ghost use Rattle.jm_monitors.specs.declared.stored.Stored.{Stored as Kept};
 ghost use Rattle.jm_monitors.specs.Steps.{after_death};
 ghost use Rattle.jm_store.specs.Slots.{monitor_at};
-ghost use Rattle.jm_store.specs.Moves.{after_moves, AreGiven, IsReadAt, AreVisited, has_all};
+ghost use Rattle.jm_store.specs.Moves.{after_moves, is_marked, AreGiven, IsReadAt, AreVisited, has_all};
 ghost use Rattle.jm_store.specs.Contents.{stored_of, monitors_after, AreReady, IsPlanFor};
 ghost use Rattle.jm_store.specs.Listed.{occupants_of, slots_listed, AreListed, AreListedBut, HasList, AreLeftOf, KeepEntries, KeepListed, IsInAll};
 ghost use Rattle.jm_store.specs.Plans.{CanPlan, PlansUnlessRests};
 
 use super::Store;
-use crate::event::{Call, Event, ListedEvent};
+use crate::event::{Call, Event, ListedEvent, MarkStatus};
 use crate::moves::{Move, Plan};
 use crate::waking::follow_all;
 use jm_awake::Awake;
@@ -53,7 +53,7 @@ impl<M: Monitor> Store<M> {
             marks: &self.marks,
             letter: call.letter,
             binding: call.binding,
-            known: true,
+            status: MarkStatus::Marked,
         };
         let listed = ListedEvent { event, place };
         let read = self.read_listed(&listed, awake, &mut moves, steps);
@@ -63,7 +63,7 @@ impl<M: Monitor> Store<M> {
             self.give_moves(moves);
             return Ok(None);
         }
-        let plan = self.plan_of(call, true, moves, 0)?;
+        let plan = self.plan_of(call, MarkStatus::Marked, moves, 0)?;
         Ok(Some(plan))
     }
 
@@ -77,7 +77,7 @@ impl<M: Monitor> Store<M> {
         steps: &mut Steps<L>,
     ) -> Result<(), NoMemory>
         requires letter { listed.now.event.letter.0 < (M.meaning (M.definition listed.now.event.rules.now)).letters }
-        requires known { IsTrue listed.now.event.known ↔ Contains listed.now.event.marks.now.list
+        requires known { IsTrue (is_marked listed.now.event.status) ↔ Contains listed.now.event.marks.now.list
             listed.now.event.binding.now }
         requires list { HasList (M.meaning (M.definition listed.now.event.rules.now)) (M.StandsFor
             listed.now.event.rules.now) listed.now.event.objects.now listed.now.event.letter.0
@@ -115,7 +115,7 @@ impl<M: Monitor> Store<M> {
         steps: &mut Steps<L>,
     ) -> Result<Option<Move<M::State>>, NoMemory>
         requires letter { event.now.letter.0 < (M.meaning (M.definition event.now.rules.now)).letters }
-        requires known { IsTrue event.now.known ↔ Contains event.now.marks.now.list event.now.binding.now }
+        requires known { IsTrue (is_marked event.now.status) ↔ Contains event.now.marks.now.list event.now.binding.now }
         requires marked { Contains event.now.marks.now.list event.now.binding.now }
         requires above { (s : Kept M.State) → monitor_at self.now.monitors slot ≡ Some s
             → is_below event.now.binding.now s.instance ≡ true }

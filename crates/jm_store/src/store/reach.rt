@@ -3,13 +3,13 @@ ghost use Rattle.std.specs.Prelude.{◌≡◌, ℕ, ◌+◌, ◌<◌, ◌≤◌,
 ghost use Rattle.jm_model.specs.Bindings.{empty, is_compatible};
 ghost use Rattle.jm_index.specs.Index.{AreLive, IsFitting};
 ghost use Rattle.jm_store.specs.Slots.{monitor_at};
-ghost use Rattle.jm_store.specs.Moves.{AreGiven, IsReadAt, IsCompatibleAt, AreMovesRead, asks_by, EndsFewer, AreEnding, reached_by};
+ghost use Rattle.jm_store.specs.Moves.{AreGiven, IsReadAt, IsCompatibleAt, AreMovesRead, asks_by, is_marked, EndsFewer, AreEnding, reached_by};
 ghost use Rattle.jm_store.specs.Contents.{stored_of, with_ending};
 ghost use Rattle.jm_store.specs.Plans.{CanPlan, Plans};
 
 use super::Store;
 use crate::ending::end_fewer_by;
-use crate::event::{Call, Event};
+use crate::event::{Call, Event, MarkStatus};
 use crate::moves::{Move, Plan};
 use crate::report::report;
 use jm_model::{Binding, Letter, Monitor, NoMemory, Steps};
@@ -51,26 +51,26 @@ impl<M: Monitor> Store<M> {
         ensures steps { steps.new ≤ steps.old + count_by (λ s. is_compatible s.instance binding.now)
             (stored_of self.old) }
     {
-        let known = self.marks.contains(binding);
+        let status = self.status_of(binding);
         let call = Call {
             rules,
             objects,
             letter,
             binding,
         };
-        self.plan_as(&call, known, steps)
+        self.plan_as(&call, status, steps)
     }
 
     /// Works out an event as `plan` does, where it is known whether the binding is a mark.
     pub fn plan_as<L: Ledger>(
         &mut self,
         call: &Call<'_, M>,
-        known: bool,
+        status: MarkStatus,
         steps: &mut Steps<L>,
     ) -> Result<Plan<M::State>, NoMemory>
         requires can { CanPlan (M.meaning (M.definition call.now.rules.now)) call.now.objects.now call.now.letter.0
             call.now.binding.now self.old }
-        requires known { IsTrue known ↔ Contains self.old.marks call.now.binding.now }
+        requires known { IsTrue (is_marked status) ↔ Contains self.old.marks call.now.binding.now }
         ensures plans { Plans (M.meaning (M.definition call.now.rules.now)) (M.StandsFor call.now.rules.now)
             call.now.objects.now call.now.letter.0 call.now.binding.now self.old self.new result }
         ensures steps { steps.new ≤ steps.old + count_by (λ s. is_compatible s.instance call.now.binding.now)
@@ -84,12 +84,12 @@ impl<M: Monitor> Store<M> {
             marks: &self.marks,
             letter: call.letter,
             binding: call.binding,
-            known,
+            status,
         };
         let reached = self.reach(&event, &mut slots, moves, steps);
         self.give_slots(slots);
         let (moves, met) = reached?;
-        self.plan_of(call, known, moves, met)
+        self.plan_of(call, status, moves, met)
     }
 
     /// Opens the plan of an event that makes these moves, and met the given number of monitors.
@@ -98,16 +98,17 @@ impl<M: Monitor> Store<M> {
     pub(super) fn plan_of(
         &mut self,
         call: &Call<'_, M>,
-        known: bool,
+        status: MarkStatus,
         moves: Vec<Move<M::State>>,
         met: usize,
     ) -> Result<Plan<M::State>, NoMemory>
         requires can { CanPlan (M.meaning (M.definition call.now.rules.now)) call.now.objects.now call.now.letter.0
             call.now.binding.now self.old }
-        requires known { IsTrue known ↔ Contains self.old.marks call.now.binding.now }
+        requires known { IsTrue (is_marked status) ↔ Contains self.old.marks call.now.binding.now }
         requires read { AreMovesRead (M.meaning (M.definition call.now.rules.now)) (M.StandsFor call.now.rules.now)
             call.now.letter.0 call.now.binding.now call.now.objects.now self.old.marks
-            (asks_by known self.old.ending call.now.letter.0 call.now.binding.now) self.old.monitors moves.items }
+            (asks_by (is_marked status) self.old.ending call.now.letter.0 call.now.binding.now)
+            self.old.monitors moves.items }
         ensures { Plans (M.meaning (M.definition call.now.rules.now)) (M.StandsFor call.now.rules.now)
             call.now.objects.now call.now.letter.0 call.now.binding.now self.old self.new result }
     {
@@ -117,7 +118,7 @@ impl<M: Monitor> Store<M> {
         self.end_fewer(call.rules, &moves);
         Ok(Plan {
             binding: *call.binding,
-            known,
+            status,
             moves,
             met,
             answer,
@@ -153,14 +154,14 @@ impl<M: Monitor> Store<M> {
     ) -> Result<(Vec<Move<M::State>>, usize), NoMemory>
         requires closed { self.now.is_open ≡ false }
         requires letter { event.now.letter.0 < (M.meaning (M.definition event.now.rules.now)).letters }
-        requires known { IsTrue event.now.known ↔ Contains event.now.marks.now.list event.now.binding.now }
+        requires known { IsTrue (is_marked event.now.status) ↔ Contains event.now.marks.now.list event.now.binding.now }
         requires fits { IsFitting self.now.index event.now.objects.now }
         requires live { AreLive event.now.objects.now event.now.binding.now }
         requires none { moves.items ≡ [] }
         ensures moves { IfOk result (λ reached. AreMovesRead (M.meaning (M.definition event.now.rules.now))
             (M.StandsFor event.now.rules.now) event.now.letter.0 event.now.binding.now
             event.now.objects.now event.now.marks.now.list
-            (asks_by event.now.known self.now.ending event.now.letter.0 event.now.binding.now)
+            (asks_by (is_marked event.now.status) self.now.ending event.now.letter.0 event.now.binding.now)
             self.now.monitors reached.0.items) }
         ensures steps { steps.new ≤ steps.old + count_by (λ s. is_compatible s.instance event.now.binding.now)
             (stored_of self.now) }
@@ -188,7 +189,7 @@ impl<M: Monitor> Store<M> {
         steps: &mut Steps<L>,
     ) -> Result<(), NoMemory>
         requires letter { event.now.letter.0 < (M.meaning (M.definition event.now.rules.now)).letters }
-        requires known { IsTrue event.now.known ↔ Contains event.now.marks.now.list event.now.binding.now }
+        requires known { IsTrue (is_marked event.now.status) ↔ Contains event.now.marks.now.list event.now.binding.now }
         requires compatible { (k : ℕ) → Contains slots.now k
             → IsCompatibleAt event.now.binding.now (monitor_at self.now.monitors k) }
         ensures moves { OnOk result ((slots_before : List ℕ)

@@ -1,6 +1,6 @@
 use Rattle.std.proofs.Common.{ℕ, ◌<◌, ◌≤◌, ◌+◌, ◌-◌, inl, inr, List, sym, subst, arith}
 use Rattle.std.proofs.lemmas.Bool.Decides.{eqb_tells}
-use Rattle.jm_coenable.specs.Rounds.{AreNeeded, IsPart, IsClosedState, IsClosed}
+use Rattle.jm_coenable.specs.Rounds.{AreNeeded, IsPart, IsClosedState, AreClosedStates}
 use Rattle.jm_coenable.proofs.SetLemmas.{part_map, part_then}
 use Rattle.jm_coenable.proofs.needed.go_back.Goals as goal
 
@@ -21,5 +21,5 @@ loop-done-preserved c =
 pub returns : goal.returns
 returns c =
     let t = c.args.table.now in let g = c.args.goal.now in let v = c.args.events.now in
-    part_map (AreNeeded t g v) (λ (sets : List (List ℕ)). (state : ℕ) → state < t.states → t.states ≤ state + c.loop-done.done → IsClosedState t g v state sets) (IsClosed t g v)
+    part_map (AreNeeded t g v) (λ (sets : List (List ℕ)). (state : ℕ) → state < t.states → t.states ≤ state + c.loop-done.done → IsClosedState t g v state sets) (AreClosedStates t g v)
     c.args.needed.now.items c.loop-done.needed.items c.loop-done.changed c.loop-done.invariant (λ closed state lt. closed state lt (omega (arith, c.len-states.ensures.value)))

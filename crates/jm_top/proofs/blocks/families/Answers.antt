@@ -2,7 +2,7 @@ use Rattle.std.proofs.Common.{◌≡◌, false, subst, arith}
 use Rattle.std.specs.Prelude.{map}
 use Rattle.std.proofs.lemmas.List.{take_all}
 use Rattle.jm_machine.specs.Meanings.{has_grammar}
-use Rattle.jm_inputs.specs.Reading.{Listed, listing, named_entry, listed, specification_of, IsWhole}
+use Rattle.jm_inputs.specs.Reading.{Listed, listing, named_entry, listed, specification_of, FitsEntry}
 use Rattle.jm_top.specs.Texts.{IsTextOfFamilies}
 use Rattle.jm_inputs.proofs.SpecSetLemmas.{length-listed}
 use Rattle.jm_top.proofs.TextLemmas.{entry_there, listed_there, All-place, families_more}
@@ -12,7 +12,7 @@ pub families_text-requires-clause-whole : goal.families_text-requires-clause-who
 families_text-requires-clause-whole c =
     let entry = entry_there c.args.catalog.now c.loop-spec.spec c.name.result.now c.table.result.now c.name.ensures c.table.ensures in
     let here = listed_there c.args.catalog.now c.args.specs.now c.loop-spec.spec _ c.index-specs-number.result c.requires.many (omega arith) entry c.index-specs-number.is in
-    All-place IsWhole (listed c.args.catalog.now c.args.specs.now) c.loop-spec.spec _ c.requires.whole here.0 here.1
+    All-place FitsEntry (listed c.args.catalog.now c.args.specs.now) c.loop-spec.spec _ c.requires.whole here.0 here.1
 
 pub families_text-requires-clause-table : goal.families_text-requires-clause-table
 families_text-requires-clause-table c =

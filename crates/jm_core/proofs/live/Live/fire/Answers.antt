@@ -19,8 +19,8 @@ list_if-requires-clause-fits g c =
 pub list_if-requires-clause-live : goal.list_if-requires-clause-live
 list_if-requires-clause-live g c = λ o binds. c.requires.can.event.live o (object-among _ binds.0 o binds.1)
 
-pub returns-after-known : goal.returns-after-known
-returns-after-known g c =
+pub returns-after-is_marked : goal.returns-after-is_marked
+returns-after-is_marked g c =
     let m = g.M.Monitor.meaning (g.M.Monitor.definition c.args.call.now.rules.now) in
     let Stands = g.M.Monitor.StandsFor c.args.call.now.rules.now in
     let dead = c.args.call.now.objects.now in

@@ -1,17 +1,17 @@
-use Rattle.std.proofs.Common.{◌≡◌, ℕ, Bool, List, inl, inr, sym, subst}
+use Rattle.std.proofs.Common.{◌≡◌, ℕ, Bool, List, inl, inr, sym, subst, ◌∙◌}
 use Rattle.std.specs.Prelude.{Some, None, IsTrue, ◌↔◌, not}
 use Rattle.std.proofs.lemmas.Bool.{both_ways, not-true, not-false}
 use Rattle.jm_model.specs.declared.binding.Binding.{Binding}
 use Rattle.jm_model.specs.Meanings.{Meaning, IsCutWord}
 use Rattle.jm_marks.specs.Marks.{dead_mask_of}
 use Rattle.jm_monitors.specs.Steps.{Follows}
-use Rattle.jm_store.specs.Moves.{IsNext}
+use Rattle.jm_store.specs.Moves.{IsNext, is_marked}
 use Rattle.jm_store.specs.declared.moves.Move.{Move}
 use Rattle.jm_store.proofs.EventLemmas.{advanced_next, left_known, left_uncovered, left_lost, moved_above, moved_made}
 use Rattle.jm_store.proofs.MoveLemmas.{join_above}
 use Rattle.jm_store.proofs.VisitLemmas.{below_by_mask, apart_by_mask}
 use Rattle.jm_store.proofs.event.Event.outcome.Goals as goal
-use Rattle.jm_store.proofs.event.Event.outcome.Goals.{then-self-via-then-self, then-self-via-else-self+then-not-covers}
+use Rattle.jm_store.proofs.event.Event.outcome.Goals.{then-is_marked-via-then-is_marked, then-is_marked-via-else-is_marked+then-not-covers}
 
 -- a state that follows, and is asked whether the dead parameters of its instance cut it
 next_of : (m : Meaning) {S : Type 0} (Stands : S → List ℕ → Type 0) (letter : ℕ) (dead : List Bool) (t : Binding) (base state : S) (mask : ℕ) (cut : Bool) → Follows Stands letter base state → mask ≡ dead_mask_of dead t
@@ -22,14 +22,14 @@ next_of m Stands letter dead t base state mask cut next is asked = record {
   cut = λ goes w stands. subst (λ (d : ℕ). IsCutWord m w d) is ((asked w stands).0 (not-false cut goes));
 }
 
-pub returns-then-self : goal.returns-then-self
-returns-then-self g c =
+pub returns-then-is_marked : goal.returns-then-is_marked
+returns-then-is_marked g c =
     let m = g.M.Monitor.meaning (g.M.Monitor.definition c.args.self.now.rules.now) in
     let Stands = g.M.Monitor.StandsFor c.args.self.now.rules.now in
     let apart = apart_by_mask _ _ (rw (c.mask-mask.ensures.value, c.mask.ensures.value) at c.if-mask.false) in
-    elim c.then-self.branch [
-      | then-self-via-then-self w ↦ inl (left_known m Stands _ _ _ _ c.args.base.now apart (c.requires.known.0 w.if-self.true))
-      | then-self-via-else-self+then-not-covers w ↦
+    elim c.then-is_marked.branch [
+      | then-is_marked-via-then-is_marked w ↦ inl (left_known m Stands _ _ _ _ c.args.base.now apart (c.requires.known.0 (sym c.is_marked.ensures ∙ w.if-is_marked.true)))
+      | then-is_marked-via-else-is_marked+then-not-covers w ↦
           inl (left_uncovered m Stands _ _ _ _ c.args.base.now c.join-instance.result c.join-instance.ensures apart
           (λ covered. both_ways w.covers.result w.if-not-covers.true (w.covers.ensures.1 covered)))
     ]
@@ -59,7 +59,7 @@ returns g c =
     let apart = apart_by_mask _ _ (rw (c.mask-mask.ensures.value, c.mask.ensures.value) at c.if-mask.false) in
     let made : Move g.row.M-State.Denot = record { slot = None; monitor = record { instance = c.join-instance.result; state = c.in_ok-state-2.state }; stays = not c.cut-stays-2.result } in
     moved_made m Stands _ _ _ _ c.args.slot c.args.base.now c.join-instance.result made c.join-instance.ensures c.requires.compatible apart
-    (λ there. both_ways c.args.self.now.known c.if-self.false (c.requires.known.1 there)) (c.covers.ensures.0 c.if-not-covers.false) (advanced_next m Stands _ _ None _ _ _ _ (next_of m Stands _ _ _ _ _ _ c.cut-stays-2.result c.in_ok-state-2.ensures c.dead_mask-dead-2.ensures c.cut-stays-2.ensures))
+    (λ there. both_ways (is_marked c.args.self.now.status) (sym c.is_marked.ensures ∙ c.if-is_marked.false) (c.requires.known.1 there)) (c.covers.ensures.0 c.if-not-covers.false) (advanced_next m Stands _ _ None _ _ _ _ (next_of m Stands _ _ _ _ _ _ c.cut-stays-2.result c.in_ok-state-2.ensures c.dead_mask-dead-2.ensures c.cut-stays-2.ensures))
 
 pub returns-then-rests : goal.returns-then-rests
 returns-then-rests g c =

@@ -14,17 +14,17 @@ invariant_of-self g c =
       room = λ e. absurd (false≢true e);
     }
 
-pub returns-then-not-known-clause-marks : goal.returns-then-not-known-clause-marks
-returns-then-not-known-clause-marks g c = rw (← c.self.view_is) (marks_added c.self.inside.marks.list _ _ c.add.ensures.known c.add.ensures.unknown)
+pub returns-then-not-is_marked-clause-marks : goal.returns-then-not-is_marked-clause-marks
+returns-then-not-is_marked-clause-marks g c = rw (← c.self.view_is) (marks_added c.self.inside.marks.list _ _ c.add.ensures.known c.add.ensures.unknown)
 
-pub returns-then-not-known-clause-fits : goal.returns-then-not-known-clause-fits
-returns-then-not-known-clause-fits g c =
+pub returns-then-not-is_marked-clause-fits : goal.returns-then-not-is_marked-clause-fits
+returns-then-not-is_marked-clause-fits g c =
     let added = marks_added c.self.inside.marks.list _ _ c.add.ensures.known c.add.ensures.unknown in
     rw (← c.self.view_is)
     (λ dead fits marks below. housed_fits _ _ _ _ _ dead c.self.invariant.housed fits (λ t there. elim ((added t).0 there) [ inl before ↦ marks t before | inr is ↦ rw is below ]))
 
-pub returns-else-not-known-clause-fits : goal.returns-else-not-known-clause-fits
-returns-else-not-known-clause-fits g c = rw (← c.self.view_is) (λ dead fits marks below. housed_fits _ _ _ _ _ dead c.self.invariant.housed fits marks)
+pub returns-else-not-is_marked-clause-fits : goal.returns-else-not-is_marked-clause-fits
+returns-else-not-is_marked-clause-fits g c = rw (← c.self.view_is) (λ dead fits marks below. housed_fits _ _ _ _ _ dead c.self.invariant.housed fits marks)
 
-pub returns-then-not-known-clause-kept : goal.returns-then-not-known-clause-kept
-returns-then-not-known-clause-kept g c = rw (← c.self.view_is) (record { monitors = refl; index = refl; ending = refl })
+pub returns-then-not-is_marked-clause-kept : goal.returns-then-not-is_marked-clause-kept
+returns-then-not-is_marked-clause-kept g c = rw (← c.self.view_is) (record { monitors = refl; index = refl; ending = refl })

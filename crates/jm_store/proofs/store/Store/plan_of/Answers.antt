@@ -6,7 +6,7 @@ use Rattle.std.proofs.lemmas.List.Sorted.{IsPermutation-refl}
 use Rattle.std.proofs.lemmas.List.Elements.{Contains-append_left}
 use Rattle.jm_semantics.specs.Traces.{ParametricEvent}
 use Rattle.jm_store.specs.declared.moves.Move.{Move}
-use Rattle.jm_store.specs.Moves.{EndsFewer, asks_by}
+use Rattle.jm_store.specs.Moves.{is_marked, EndsFewer, asks_by}
 use Rattle.jm_store.specs.Contents.{stored_of, with_ending, IsFit, IsStoreAfter}
 use Rattle.jm_store.proofs.FitLemmas.{fit_ending}
 use Rattle.jm_store.proofs.EndingLemmas.{fewer-refl}
@@ -74,7 +74,7 @@ returns g c =
     moves_within m Stands _ _ _ _ _ _ _ whole.all (length c.args.call.now.objects.now) c.requires.can.fits.instances c.requires.can.there move
     (Contains-append_left c.args.moves.items whole.resting move there) in
     let fewer : EndsFewer old.ending c.end_fewer.new.self.ending = rw opened.kept.ending at c.end_fewer.ensures.fewer in
-    let known : IsTrue c.args.known → Contains new.marks c.args.call.now.binding.now = λ e.
+    let known : IsTrue (is_marked c.args.status) → Contains new.marks c.args.call.now.binding.now = λ e.
     subst (λ (l : List Binding). Contains l c.args.call.now.binding.now) (sym opened.kept.marks) (c.requires.known.0 e) in
     let fits : IsFit c.end_fewer.new.self c.args.call.now.objects.now = rw c.end_fewer.ensures.unchanged
     (fit_ending new _ c.args.call.now.objects.now
@@ -84,7 +84,7 @@ returns g c =
     (store_same m Stands trace c.args.call.now.objects.now old (with_ending new c.end_fewer.new.self.ending) opened.kept.stored opened.kept.marks fewer
     (opened_fewer old.index new.index c.args.call.now.objects.now c.args.moves.items c.requires.can.fits.index within opened.fits)) in
     let spares = spared_same m Stands old new opened.kept.stored (opened_fewer old.index new.index c.args.call.now.objects.now c.args.moves.items c.requires.can.fits.index within opened.fits) in
-    let asks = asks_by c.args.known old.ending c.args.call.now.letter.0 c.args.call.now.binding.now in
+    let asks = asks_by (is_marked c.args.status) old.ending c.args.call.now.letter.0 c.args.call.now.binding.now in
     let letter = c.args.call.now.letter.0 in
     let b = c.args.call.now.binding.now in
     let dead = c.args.call.now.objects.now in
@@ -116,7 +116,7 @@ returns g c =
           (rw c.end_fewer.ensures.unchanged at fits.index.reached))
           (after_resting m Stands letter b dead old new moves slotted resting full.each opened.kept.monitors) done);
       works = λ trace holds.
-          let may = may_reach m Stands c.args.call.now.letter.0 c.args.call.now.binding.now c.args.call.now.objects.now old.marks c.args.known old.ending (stored_of old) c.requires.known.0 holds.ended in
+          let may = may_reach m Stands c.args.call.now.letter.0 c.args.call.now.binding.now c.args.call.now.objects.now old.marks (is_marked c.args.status) old.ending (stored_of old) c.requires.known.0 holds.ended in
           let distinct = sorted_distinct m Stands letter b dead asks old new (moves ++ resting) (moves ++ resting) (slotted ++ resting)
           full.all may (IsPermutation-refl _) all_placed opened.housed opened.kept.monitors opened.kept.stored opened.kept.marks trace holds.monitors c.requires.can.event in
           let reported = report (pairs_map (λ r s. r.instance ≢ s.instance) (λ (x : Move g.row.M-State.Denot). x.monitor) moves (distinct_left moves resting distinct)) in

@@ -1,6 +1,7 @@
 use Rattle.std.proofs.Common.{◌≡◌, ℕ, inl, inr, List, [], ◌∷◌, refl, sym, ap, ◌∙◌, subst}
 use Rattle.std.specs.Prelude.{Option, Some, None, Contains}
 use Rattle.jm_monitors.specs.declared.stored.Stored.{Stored}
+use Rattle.jm_store.specs.Moves.{is_marked}
 use Rattle.jm_store.specs.Listed.{AreListed}
 use Rattle.jm_store.proofs.ListedLemmas.{listed_same, for_slots}
 use Rattle.jm_model.specs.declared.binding.Binding.{Binding}
@@ -62,7 +63,7 @@ returns-clause-listed g c = λ dead listed.
     subst (λ (l : List (Option (Stored g.row.M-State.Denot))). AreListed m Stands dead l c.follow.new.awake) (sym (c.close.ensures.kept.monitors ∙ carried.done.monitors)) moved
 
 pub place_one-requires-clause-slotted : goal.place_one-requires-clause-slotted
-place_one-requires-clause-slotted g c = rw c.in_ok-open_for.ensures.opened (λ closed none. (c.requires.known (not-false c.args.known closed)).1 none)
+place_one-requires-clause-slotted g c = rw c.in_ok-open_for.ensures.opened (λ closed none. (c.requires.known (not-false (is_marked c.args.status) closed)).1 none)
 
 pub returns-in_err-place_one-clause-unchanged : goal.returns-in_err-place_one-clause-unchanged
 returns-in_err-place_one-clause-unchanged g c =
