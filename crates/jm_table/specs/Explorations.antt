@@ -23,7 +23,8 @@ module _ {D : Type 0} where
   Finds found (Err fault) after = after ≡ Err fault
   Finds found (Ok d) after =
       (Contains found d × (after ≡ Ok found))
-      ⊎ ((Contains found d → ⊥) × (after ≡ (if length found == most_states then Err TooManyStates else Ok (found ++ d ∷ []))))
+      ⊎ ((Contains found d → ⊥)
+      × (after ≡ (if length found == most_states then Err TooManyStates else Ok (found ++ d ∷ []))))
 
   -- Step n, which does nothing where its state isn't there; a fault is final.
   abbrev pub Works : GraphMeaning D → ℕ → ℕ → Result (List D) SpecFault → Result (List D) SpecFault → Type 0
