@@ -11,6 +11,7 @@ use Rattle.jm_sync.specs.declared.line.SyncLine.{SyncLine}
 use Rattle.jm_sync.specs.Checks.{AreSound, sync_of}
 use Rattle.jm_sync.specs.Cuts.{RisesFrom}
 use Rattle.jm_events.specs.Events.{EventDefinitions}
+use Rattle.jm_goal.specs.Goals.{most_handlers}
 use Rattle.jm_machine.specs.Meanings.{RuleDefinition, handler_count}
 use Rattle.jm_machine.specs.RuleSets.{CompiledRules}
 use Rattle.jm_inputs.specs.declared.specification.SpecHeader.{SpecHeader}
@@ -70,7 +71,7 @@ specification_of l = titled l.entry l.header l.rules.definition
 pub record AreRulesOf (entry : CatalogEntry) (rules : RuleDefinition) : Type 0 where
   pub masks : rules.masks ≡ map (λ e. e.mask) entry.table.events
   pub fit : All (λ mask. mask < 2 ^ length entry.table.parameters) rules.masks
-  pub few : handler_count rules.properties ≤ 16
+  pub few : handler_count rules.properties ≤ most_handlers
 
 -- the rules that are kept are those of the entry
 abbrev pub FitsEntry : Listed → Type 0

@@ -12,6 +12,7 @@ use Rattle.jm_sync.specs.declared.line.SyncLine.{SyncLine}
 use Rattle.jm_sync.specs.Checks.{AreSound, sync_of}
 use Rattle.jm_runner.specs.Orders.{IsOrdered}
 use Rattle.jm_runner.specs.Runs.{projections_of}
+use Rattle.jm_script.specs.Catalogs.{most_specs, most_scripts}
 use Rattle.jm_script.specs.declared.script.ScriptLine.{ScriptLine}
 use Rattle.jm_inputs.specs.declared.specification.SpecHeader.{SpecHeader}
 use Rattle.jm_inputs.specs.declared.specification.CompiledSpec.{CompiledSpec}
@@ -22,8 +23,8 @@ use Rattle.jm_inputs.specs.Reading.{specs_in, IsCatalogued, AreCounted}
 -- scripts that can run over the specifications of a spec set: both are few and some, the scripts fit the catalog, and
 -- nothing is wrong with what they ask for
 pub record CanRunOver (spec_set : SpecSet) (s : Scripts) : Type 0 where
-  pub specs : (1 ≤ length spec_set.specs.items) × (length spec_set.specs.items ≤ 16)
-  pub scripts : (1 ≤ length s.list.items) × (length s.list.items ≤ 16)
+  pub specs : (1 ≤ length spec_set.specs.items) × (length spec_set.specs.items ≤ most_specs)
+  pub scripts : (1 ≤ length s.list.items) × (length s.list.items ≤ most_scripts)
   pub catalogued : IsCatalogued spec_set
   pub counted : AreCounted (specs_in spec_set) s
   pub sound : AreSound (sync_of s.cuts.items)
