@@ -7,7 +7,8 @@ use Rattle.jm_coenable.specs.Needs.{params_at, set_at, step_of, IsHandled, IsFir
 
 -- this mask is needed at some state where a word arrives with this last letter
 abbrev pub IsNeededAtArrival : List (List ℕ) → List (List ℕ) → ℕ → ℕ → Type 0
-IsNeededAtArrival arrivals needed letter mask = (state : ℕ) × (state < length needed) × Contains (set_at arrivals state) letter
+IsNeededAtArrival arrivals needed letter mask =
+    (state : ℕ) × (state < length needed) × Contains (set_at arrivals state) letter
     × Contains (set_at needed state) mask
 
 -- the sets of dead parameters at which some mask of the set has none of them

@@ -40,9 +40,9 @@ impl<M: Monitor, J: Naming<M::Definition>> Promise<Result<Hand<M>, NoMemory>> fo
         J.watches J.scripts J.cuts p.before.value.seats.items back.seats.items) };
 }
 
-/// All workers do their scripts. Each gets the hand of one caller, and gives it back with no line left to do. Where some
-/// script asks for order each worker has a thread of its own, or the answer is NoMemory; elsewhere the caller does what
-/// no thread can be had for.
+/// All workers do their scripts. Each gets the hand of one caller, and gives it back with no line left to do. Where
+/// some script asks for order each worker has a thread of its own, or the answer is NoMemory; elsewhere the caller does
+/// what no thread can be had for.
 pub(crate) fn work_all<
     M: Monitor + Send,
     J: Naming<M::Definition> + Send + Sync,

@@ -177,7 +177,8 @@ impl<M: Monitor> Store<M> {
 
     /// The stored bindings, in the order of bindings.
     pub fn stored(&self) -> Result<Vec<Binding>, NoMemory>
-        ensures permutation { IfOk result (λ list. IsPermutation (map (λ s. s.instance) (stored_of self.now)) list.items) }
+        ensures permutation { IfOk result (λ list.
+            IsPermutation (map (λ s. s.instance) (stored_of self.now)) list.items) }
         ensures ordered { IfOk result (λ list. IsSortedBy (λ a b. is_lt (binding_cmp a b)) list.items) }
     {
         let mut list = self.counted_instances::<Brand>(Blank::new(1))?;

@@ -140,7 +140,8 @@ pub data IsUnclosed : Text → Type 0 where
 abbrev pub TileUpTo : Text → ℕ → Text → List Token → Type 0
 TileUpTo behind place bytes [] = AreDropped bytes behind
 TileUpTo behind place bytes (token ∷ tokens) =
-    (gap : Text) × (text : Text) × (rest : Text) × (bytes ≡ gap ++ text ++ rest) × AreDropped gap (text ++ rest ++ behind)
+    (gap : Text) × (text : Text) × (rest : Text) × (bytes ≡ gap ++ text ++ rest)
+    × AreDropped gap (text ++ rest ++ behind)
     × (token.start ≡ place + length gap) × (token.end ≡ token.start + length text) × (0 < length text)
     × TileUpTo behind token.end rest tokens
 

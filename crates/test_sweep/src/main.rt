@@ -1,4 +1,5 @@
-//! Cases of recordings: where their parts lie, and the histories of parts that are replayed over rules that a text gives.
+//! Cases of recordings: where their parts lie, and the histories of parts that are replayed over rules that a text
+//! gives.
 #![tactic(auto)]
 
 mod answer;

@@ -4,8 +4,8 @@ use jm_model::{Entry, Firing, Firings, NoMemory, Outcome};
 use std::alloc::{AllocError, Global};
 use testkit::{byte_of, number_of, put};
 
-/// The outcome of a text: `fired:HANDLER@BINDING;..`, `refused:OBJECT`, `done`, `kept:COUNT`, or another where it is out
-/// of memory.
+/// The outcome of a text: `fired:HANDLER@BINDING;..`, `refused:OBJECT`, `done`, `kept:COUNT`, or another where it is
+/// out of memory.
 pub fn outcome_of(alloc: Global, text: &str) -> Result<Outcome, NoMemory> {
     let (kind, rest) = text.split_once(':').unwrap_or((text, ""));
     match kind {

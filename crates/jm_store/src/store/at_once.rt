@@ -46,7 +46,8 @@ impl<M: Monitor> Store<M> {
         requires can { CanPlan (M.meaning (M.definition call.now.rules.now)) call.now.objects.now call.now.letter.0
             call.now.binding.now self.old }
         requires list { HasList (M.meaning (M.definition call.now.rules.now)) (M.StandsFor call.now.rules.now)
-            call.now.objects.now call.now.letter.0 call.now.binding.now self.old.marks self.old.monitors awake.old place }
+            call.now.objects.now call.now.letter.0 call.now.binding.now self.old.marks self.old.monitors
+            awake.old place }
         ensures unchanged { IfNone result ((self.new ≡ self.old) × (awake.new ≡ awake.old)) }
         ensures marks { self.new.marks ≡ self.old.marks }
         ensures advances { Advances (M.meaning (M.definition call.now.rules.now)) (M.StandsFor call.now.rules.now)

@@ -35,7 +35,8 @@ impl<M: Monitor> Store<M> {
         requires can { CanPlan (M.meaning (M.definition call.now.rules.now)) call.now.objects.now call.now.letter.0
             call.now.binding.now self.old }
         requires list { HasList (M.meaning (M.definition call.now.rules.now)) (M.StandsFor call.now.rules.now)
-            call.now.objects.now call.now.letter.0 call.now.binding.now self.old.marks self.old.monitors awake.old place }
+            call.now.objects.now call.now.letter.0 call.now.binding.now self.old.marks self.old.monitors
+            awake.old place }
         ensures plans { PlansUnlessRests (M.meaning (M.definition call.now.rules.now)) (M.StandsFor call.now.rules.now)
             call.now.objects.now call.now.letter.0 call.now.binding.now self.old self.new result }
         ensures listed { AreListed (M.meaning (M.definition call.now.rules.now)) (M.StandsFor call.now.rules.now)
