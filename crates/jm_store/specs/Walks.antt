@@ -49,6 +49,10 @@ abbrev pub EndsLike : List Mask → Mask → List Mask → ℕ → Type 0
 EndsLike ending domain row number =
     (e : ℕ) → ends_all ending e domain ≡ true → (mask : Mask) × (slice_get row number ≡ Some mask) × (bit_at mask e ≡ 1)
 
+-- how many numbers of states there are at most: a number takes two bytes
+abbrev pub most_numbers : ℕ
+most_numbers = 65536
+
 -- no move was noted
 abbrev pub no_turn : Turn
 no_turn = record { from = 4294967295; to = no_number }
@@ -57,7 +61,7 @@ no_turn = record { from = 4294967295; to = no_number }
 -- with that one, unless no move was noted.
 abbrev pub IsTurn : List ℕ → Mask → List Mask → Turn → Type 0
 IsTurn plain ends endings turn =
-    turn.from < 65536 → (slice_get plain turn.from ≡ Some turn.to) × (turn.to < at_rest) × EndsAll ends endings turn.to
+    turn.from < most_numbers → (slice_get plain turn.from ≡ Some turn.to) × (turn.to < at_rest) × EndsAll ends endings turn.to
 
 -- and so it is with all of these
 abbrev pub AreTurns : List ℕ → Mask → List Mask → List Turn → Type 0
@@ -88,7 +92,7 @@ module _ (m : Meaning) {S : Type 0} (Stands : S → Word → Type 0) (HasNumber 
     pub record IsShifting (letters : Mask) (card : Card) (base : Stored S) (number : ℕ) : Type 0 where
       pub before : ℕ
       pub has : HasNumber base.state before
-      pub low : number < 65536
+      pub low : number < most_numbers
       pub below : is_below b base.instance ≡ true
       pub whole : dead_mask_of dead base.instance ≡ 0
       pub moves : (after : S) → HasNumber after number → IsPlainMove S m Stands letter base.state after
@@ -125,7 +129,7 @@ AreReadable {S} b letter ending ends lists monitors entries =
 abbrev pub HaveMonitors : {S : Type 0} → List Shift → List (Option (Stored S)) → Type 0
 HaveMonitors {S} shifts monitors =
     (shift : Shift) → Contains shifts shift
-    → ((s : Stored S) × (monitor_at monitors shift.slot ≡ Some s)) × (shift.number < 65536)
+    → ((s : Stored S) × (monitor_at monitors shift.slot ≡ Some s)) × (shift.number < most_numbers)
 
 -- a monitor whose state had a number got one that has this number
 abbrev pub IsShifted : {S : Type 0} → (S → ℕ → Type 0) → Option (Stored S) → Option (Stored S) → ℕ → Type 0

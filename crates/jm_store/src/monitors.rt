@@ -4,7 +4,7 @@ ghost use Rattle.jm_monitors.specs.declared.stored.Stored.{Stored as Kept};
 ghost use Rattle.jm_monitors.specs.Steps.{IsCutState, IsAliveState};
 ghost use Rattle.jm_marks.specs.Marks.{dead_mask_of};
 ghost use Rattle.jm_store.specs.Slots.{monitors_of, monitor_at, stored_in, slot_at, count_in, IsReserved};
-ghost use Rattle.jm_store.specs.Walks.{HaveMonitors, IsShifted, AreShifted, AreAlike};
+ghost use Rattle.jm_store.specs.Walks.{most_numbers, HaveMonitors, IsShifted, AreShifted, AreAlike};
 ghost use Rattle.jm_store.specs.declared.monitors.Slot.TheVariants.{Free, Planned, Taken};
 
 use crate::walk::Shift;
@@ -301,7 +301,7 @@ fn shift_all<M: Monitor>(rules: &M, slots: &mut [Slot<M::State>], shifts: &[Shif
 #[inline(always)]
 fn renumber<M: Monitor>(rules: &M, slots: &mut [Slot<M::State>], shift: &Shift)
     requires present { (s : Kept M.State) × (monitor_at (monitors_of slots.old) shift.now.slot ≡ Some s) }
-    requires low { shift.now.number < 65536 }
+    requires low { shift.now.number < most_numbers }
     ensures at_key { IsShifted (M.HasNumber rules.now) (monitor_at (monitors_of slots.old) shift.now.slot)
         (monitor_at (monitors_of slots.new) shift.now.slot) shift.now.number }
     ensures others { (k : ℕ) → (k ≡ shift.now.slot → ⊥)

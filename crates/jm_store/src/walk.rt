@@ -11,7 +11,7 @@ ghost use Rattle.jm_marks.specs.Marks.{dead_mask_of, is_dead_object};
 ghost use Rattle.jm_store.specs.Slots.{monitors_of, monitor_at};
 ghost use Rattle.jm_store.specs.Moves.{is_marked, AreNone, AreSifted, IsPushed, IsReadAt};
 ghost use Rattle.jm_store.specs.Walks.{AreRows, AreAliveBut, EndsAll, IsShiftAt, no_turn, AreTurns, EndsLike};
-ghost use Rattle.jm_store.specs.Walks.{AreAmong, AreReadable, AsksAll, CanWalk, IsToldByNumber};
+ghost use Rattle.jm_store.specs.Walks.{most_numbers, AreAmong, AreReadable, AsksAll, CanWalk, IsToldByNumber};
 ghost use Rattle.jm_store.specs.declared.walk.Told.TheVariants.{Shifts, Nothing};
 
 use crate::event::Event;
@@ -86,7 +86,7 @@ impl Turn {
     #[inline(always)]
     fn is_from(&self, number: u16) -> bool
         ensures from { result ≡ true → self.now.from ≡ number }
-        ensures low { number < 65536 }
+        ensures low { number < most_numbers }
     {
         self.from == number as u32
     }

@@ -15,12 +15,13 @@ pub(crate) struct Known {
 
 impl Model for Known {
     ghost use Rattle.std.specs.Prelude.{ℕ, ◌≡◌, List, map, length};
+    ghost use Rattle.jm_table.specs.declared.known.TheConstants.{BUCKETS};
 
     ghost Value = { List (List ℕ) };
 
     ghost view = { λ k. map (λ bucket. bucket.items) k.buckets.items };
 
-    ghost invariant = { λ k. length k.buckets.items ≡ 1024 };
+    ghost invariant = { λ k. length k.buckets.items ≡ BUCKETS };
 }
 
 impl Known {
