@@ -9,7 +9,7 @@ use Rattle.jm_script.specs.declared.script.ScriptLine.{ScriptLine}
 use Rattle.jm_script.specs.declared.block.Brief.{Brief}
 use Rattle.jm_script.specs.declared.block.Brief.TheVariants as brief
 use Rattle.jm_script.specs.declared.block.BriefLine.{BriefLine}
-use Rattle.jm_script.specs.Blocks.{event_target, target_in, number_of, line_in, lines_in, FitsIn, IsBlock, Grown}
+use Rattle.jm_script.specs.Blocks.{event_target, target_in, line_in, lines_in, FitsIn, IsBlock, Grown}
 
 -- ---- objects after the others
 target_in-more : (objects more : List ℕ) (b : Brief) → FitsIn (length objects) b → target_in (objects ++ more) b ≡ target_in objects b
@@ -36,16 +36,16 @@ lines_in-more objects more (l ∷ ls) fit =
     let P : BriefLine → Type 0 = λ l. FitsIn (length objects) l.brief in
     let here = target_in-more objects more l.brief (All-head P l ls fit) in
     let rest = lines_in-more objects more ls (All-tail P l ls fit) in
-    λ i. record { line = number_of l; target = here i } ∷ rest i
+    λ i. record { line = l.number; target = here i } ∷ rest i
 
 -- one line more
 pub lines_in-push : (old new : List ℕ) (ls longer : List BriefLine) (l : BriefLine) (t : Target) → IsBlock ls old → Grown old new → longer ≡ ls ++ l ∷ [] → target_in new l.brief ≡ t
-    → lines_in new longer ≡ lines_in old ls ++ record { line = number_of l; target = t } ∷ []
+    → lines_in new longer ≡ lines_in old ls ++ record { line = l.number; target = t } ∷ []
 lines_in-push old new ls longer l t block grown pushed is =
     let at_new = ap (λ os. lines_in os ls) grown.1 ∙ lines_in-more old grown.0 ls block.fit in
     ap (lines_in new) pushed
     ∙ map-append (line_in new) ls (l ∷ [])
-    ∙ (λ i. at_new i ++ record { line = number_of l; target = is i } ∷ [])
+    ∙ (λ i. at_new i ++ record { line = l.number; target = is i } ∷ [])
 
 pub block-push : (old new : List ℕ) (ls longer : List BriefLine) (l : BriefLine) → IsBlock ls old → Grown old new → length new ≤ length old + 8 → longer ≡ ls ++ l ∷ [] → FitsIn (length new) l.brief → IsBlock longer new
 block-push old new ls longer l block grown len pushed fits =
@@ -59,7 +59,7 @@ block-push old new ls longer l block grown len pushed fits =
     }
 
 -- with room made for it
-pub pushed : (ls : List BriefLine) (old : List ℕ) (ls_then : List BriefLine) (then new : List ℕ) (longer : List BriefLine) (l : BriefLine) (line : ℕ) (b : Brief) (t : Target) (here : List ScriptLine) → here ≡ lines_in old ls → IsBlock ls old → ls_then ≡ ls → then ≡ old → Grown then new → longer ≡ ls_then ++ l ∷ [] → number_of l ≡ line → l.brief ≡ b → target_in new b ≡ t
+pub pushed : (ls : List BriefLine) (old : List ℕ) (ls_then : List BriefLine) (then new : List ℕ) (longer : List BriefLine) (l : BriefLine) (line : ℕ) (b : Brief) (t : Target) (here : List ScriptLine) → here ≡ lines_in old ls → IsBlock ls old → ls_then ≡ ls → then ≡ old → Grown then new → longer ≡ ls_then ++ l ∷ [] → l.number ≡ line → l.brief ≡ b → target_in new b ≡ t
     → lines_in new longer ≡ here ++ record { line = line; target = t } ∷ []
 pushed ls old ls_then then new longer l line b t here view block same_lines same grown behind number does is =
     let one = lines_in-push old new ls longer l t block (subst (λ os. Grown os new) same grown) (behind ∙ ap (λ ls. ls ++ l ∷ []) same_lines) (ap (target_in new) does ∙ is) in

@@ -16,13 +16,13 @@ use Rattle.jm_script.specs.Blocks.{lines_of, steps_in, AreFull}
 abbrev all_of : List (List ScriptLine) → List ScriptLine
 all_of blocks = flat_map (λ lines. lines) blocks
 
-length_full : (blocks : List (List ScriptLine)) → AreFull blocks → length (all_of blocks) ≡ 512 * length blocks
+length_full : (blocks : List (List ScriptLine)) → AreFull blocks → length (all_of blocks) ≡ 16384 * length blocks
 length_full [] full = refl
 length_full (b ∷ blocks) full =
-    let P : List ScriptLine → Type 0 = λ lines. length lines ≡ 512 in
+    let P : List ScriptLine → Type 0 = λ lines. length lines ≡ 16384 in
     omega (arith, length-append b (all_of blocks), All-head P b blocks full, length_full blocks (All-tail P b blocks full))
 
-pub length_lines : (full : List (List ScriptLine)) (last : List ScriptLine) → AreFull full → length (lines_of full last) ≡ length full * 512 + length last
+pub length_lines : (full : List (List ScriptLine)) (last : List ScriptLine) → AreFull full → length (lines_of full last) ≡ length full * 16384 + length last
 length_lines full last each = omega (arith, length-append (all_of full) last, length_full full each)
 
 slice_get-left : {A : Type 0} (xs ys : List A) (i : ℕ) → i < length xs → slice_get (xs ++ ys) i ≡ slice_get xs i
@@ -38,32 +38,32 @@ slice_get-right (x ∷ xs) ys i zero at = absurd (omega arith)
 slice_get-right (x ∷ xs) ys i (suc k) at = slice_get-right xs ys i k (omega arith)
 
 IsFull : List ScriptLine → Type 0
-IsFull lines = length lines ≡ 512
+IsFull lines = length lines ≡ 16384
 
 -- a line of a full block
-in_block : (blocks : List (List ScriptLine)) (last b : List ScriptLine) (q r place : ℕ) → AreFull blocks → slice_get blocks q ≡ Some b → r < 512 → place ≡ 512 * q + r → (r < length b) × (slice_get b r ≡ slice_get (lines_of blocks last) place)
+in_block : (blocks : List (List ScriptLine)) (last b : List ScriptLine) (q r place : ℕ) → AreFull blocks → slice_get blocks q ≡ Some b → r < 16384 → place ≡ 16384 * q + r → (r < length b) × (slice_get b r ≡ slice_get (lines_of blocks last) place)
 in_block [] last b q r place full at inside is = absurd (cc)
 in_block (c ∷ blocks) last b zero r place full at inside is =
     let same : c ≡ b = cc in
-    let size : length c ≡ 512 = All-head (λ lines. length lines ≡ 512) c blocks full in
+    let size : length c ≡ 16384 = All-head (λ lines. length lines ≡ 16384) c blocks full in
     let within : r < length c = omega (arith, size) in
     let here : place ≡ r = omega (arith, is) in
     (rw (← same) within, rw (← same, here) (sym (ap (λ ls. slice_get ls r) (append_assoc c (all_of blocks) last) ∙ slice_get-left c (all_of blocks ++ last) r within)))
 in_block (c ∷ blocks) last b (suc q) r place full at inside is =
-    let size : length c ≡ 512 = All-head (λ lines. length lines ≡ 512) c blocks full in
-    let rest = in_block blocks last b q r (512 * q + r) (All-tail (λ lines. length lines ≡ 512) c blocks full) at inside refl in
-    (rest.0, rest.1 ∙ sym (ap (λ ls. slice_get ls place) (append_assoc c (all_of blocks) last) ∙ slice_get-right c (all_of blocks ++ last) (512 * q + r) place (omega (arith, size, is))))
+    let size : length c ≡ 16384 = All-head (λ lines. length lines ≡ 16384) c blocks full in
+    let rest = in_block blocks last b q r (16384 * q + r) (All-tail (λ lines. length lines ≡ 16384) c blocks full) at inside refl in
+    (rest.0, rest.1 ∙ sym (ap (λ ls. slice_get ls place) (append_assoc c (all_of blocks) last) ∙ slice_get-right c (all_of blocks ++ last) (16384 * q + r) place (omega (arith, size, is))))
 
-module _ (full : List (List ScriptLine)) (last : List ScriptLine) (each : AreFull full) (room : length last ≤ 512) (place : ℕ) (there : place < length (lines_of full last)) where
-  pub in_full : (b : List ScriptLine) → slice_get full (place / 512) ≡ Some b → (place % 512 < length b) × (slice_get b (place % 512) ≡ slice_get (lines_of full last) place)
-  in_full b at = in_block full last b (place / 512) (place % 512) place each at (omega arith) (omega arith)
+module _ (full : List (List ScriptLine)) (last : List ScriptLine) (each : AreFull full) (room : length last ≤ 16384) (place : ℕ) (there : place < length (lines_of full last)) where
+  pub in_full : (b : List ScriptLine) → slice_get full (place / 16384) ≡ Some b → (place % 16384 < length b) × (slice_get b (place % 16384) ≡ slice_get (lines_of full last) place)
+  in_full b at = in_block full last b (place / 16384) (place % 16384) place each at (omega arith) (omega arith)
 
-  pub in_last : length full ≤ place / 512 → (place % 512 < length last) × (slice_get last (place % 512) ≡ slice_get (lines_of full last) place)
+  pub in_last : length full ≤ place / 16384 → (place % 16384 < length last) × (slice_get last (place % 16384) ≡ slice_get (lines_of full last) place)
   in_last past =
       let count = length_lines full last each in
       let size = length_full full each in
-      let within : place % 512 < length last = omega (arith, there, count, past, room) in
-      (within, sym (slice_get-right (all_of full) last (place % 512) place (omega (arith, there, count, size, past, room))))
+      let within : place % 16384 < length last = omega (arith, there, count, past, room) in
+      (within, sym (slice_get-right (all_of full) last (place % 16384) place (omega (arith, there, count, size, past, room))))
 
 -- ---- a block more
 pub begun : (full new : List (List ScriptLine)) (last : List ScriptLine) → new ≡ full ++ last ∷ [] → lines_of new [] ≡ lines_of full last
@@ -73,8 +73,8 @@ begun full new last pushed =
     ∙ flat_map-append (λ (lines : List ScriptLine). lines) full (last ∷ [])
     ∙ ap (λ ls. all_of full ++ ls) (append-nil last)
 
-pub full_more : (full new : List (List ScriptLine)) (last : List ScriptLine) → new ≡ full ++ last ∷ [] → AreFull full → length last ≡ 512 → AreFull new
-full_more full new last pushed each size = subst AreFull (sym pushed) (All-push (λ (lines : List ScriptLine). length lines ≡ 512) full last each size)
+pub full_more : (full new : List (List ScriptLine)) (last : List ScriptLine) → new ≡ full ++ last ∷ [] → AreFull full → length last ≡ 16384 → AreFull new
+full_more full new last pushed each size = subst AreFull (sym pushed) (All-push (λ (lines : List ScriptLine). length lines ≡ 16384) full last each size)
 
 -- a line more in the last one
 pub line_more : (full : List (List ScriptLine)) (last new more start : List ScriptLine) → new ≡ last ++ more → lines_of full last ≡ start → lines_of full new ≡ start ++ more

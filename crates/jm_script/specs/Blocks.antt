@@ -7,7 +7,7 @@ use Rattle.jm_semantics.specs.Scripts.{projection_of}
 use Rattle.jm_script.specs.Events.{spread}
 use Rattle.jm_script.specs.Projections.{script_of}
 use Rattle.jm_script.specs.Meanings.{most_steps, RisesFrom}
-use Rattle.jm_script.specs.declared.block.TheConstants.{MOST_LINES, HALF}
+use Rattle.jm_script.specs.declared.block.TheConstants.{MOST_LINES}
 use Rattle.jm_script.specs.declared.script.Target.{Target}
 use Rattle.jm_script.specs.declared.script.Target.TheVariants as target
 use Rattle.jm_script.specs.declared.script.ScriptLine.{ScriptLine}
@@ -39,13 +39,9 @@ target_in objects (brief.Event spec letter mask first) = event_target spec lette
 target_in objects (brief.Death first) = target.Death (slice_index objects first)
 target_in objects (brief.Pass spec) = target.Pass spec
 
--- the number of a line, from its two halves
-abbrev pub number_of : BriefLine → ℕ
-number_of l = l.high * HALF + l.low
-
 -- the line of a short form
 abbrev pub line_in : List ℕ → BriefLine → ScriptLine
-line_in objects l = record { line = number_of l; target = target_in objects l.brief }
+line_in objects l = record { line = l.number; target = target_in objects l.brief }
 
 abbrev pub lines_in : List ℕ → List BriefLine → List ScriptLine
 lines_in objects lines = map (line_in objects) lines

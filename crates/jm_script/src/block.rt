@@ -12,71 +12,56 @@ use jm_model::{Binding, Letter, NoMemory, Step};
 use std::alloc::Global;
 use std::marker::Model;
 
-/// How many lines a block has at most.
-pub(crate) const MOST_LINES: usize = 512;
+/// How many lines a block has at most. Those of a full block take so much memory that the C library maps it apart, and
+/// the system has it back as soon as the block is let go.
+pub(crate) const MOST_LINES: usize = 16_384;
 
 /// How many objects an event has at most.
 const MOST: usize = 8;
 
-/// How many values half a number takes.
-const HALF: u32 = 65_536;
-
-/// What a line does. The objects of an event or a death stand in a row, the first of them at a place. A block has 4,096
-/// objects at most, so two bytes hold a place.
+/// What a line does. The objects of an event or a death stand in a row, the first of them at a place.
 #[derive(Clone, Copy)]
 enum Brief {
     Event {
         spec: u8,
         letter: Letter,
         mask: u8,
-        first: u16,
+        first: u32,
     },
     Death {
-        first: u16,
+        first: u32,
     },
     Pass {
         spec: u8,
     },
 }
 
-/// A line in short form. Its number stands in two halves, the lower one first, so that they are read at once.
+/// A line in short form, and its number.
 #[derive(Clone, Copy)]
 struct BriefLine {
-    low: u16,
-    high: u16,
+    number: u32,
     brief: Brief,
 }
 
-impl BriefLine {
-    ghost use Rattle.jm_script.specs.Blocks.{number_of};
-
-    /// A line of this number that does this.
-    #[inline(always)]
-    fn of(line: u32, brief: Brief) -> BriefLine
-        ensures number { number_of result ≡ line }
-        ensures brief { result.brief ≡ brief }
-    {
-        BriefLine {
-            low: (line % HALF) as u16,
-            high: (line / HALF) as u16,
-            brief,
-        }
-    }
-
-    /// The number of the line.
-    #[inline(always)]
-    fn number(&self) -> u32
-        ensures { result ≡ number_of self.now }
-    {
-        self.high as u32 * HALF + self.low as u32
-    }
-}
-
-/// Some step lines, in order. A line takes 10 bytes, and four for each object. Contracts see them as their list.
-#[derive(Drop)]
+/// Some step lines, in order. A line takes 12 bytes, and four for each object. Contracts see them as their list.
 pub struct Block {
     lines: Vec<BriefLine>,
     objects: Vec<u32>,
+}
+
+// Most of a block is given back before the rest is: where a large piece of memory is freed at once, the C library takes
+// it that large pieces come and go, and maps those that grow later no longer apart.
+impl Drop for Block {
+    fn drop(self) {
+        let Block {
+            mut lines,
+            mut objects,
+        } = self;
+        lines.truncate(1);
+        let _ = lines.shrink_to_fit();
+        objects.truncate(1);
+        let _ = objects.shrink_to_fit();
+    }
 }
 
 impl Model for Block {
@@ -127,7 +112,10 @@ impl Block {
         self.lines.reserve(1)?;
         self.objects.reserve(MOST)?;
         let brief = shortened(&mut self.objects, action, numbers);
-        self.lines.push_reserved(BriefLine::of(line, brief));
+        self.lines.push_reserved(BriefLine {
+            number: line,
+            brief,
+        });
         Ok(())
     }
 
@@ -143,7 +131,7 @@ impl Block {
         requires { place < length self.now }
         ensures { option_map (λ l. l.line) (slice_get self.now place) ≡ Some result }
     {
-        self.lines[place].number()
+        self.lines[place].number
     }
 
     /// The line at a place.
@@ -154,7 +142,7 @@ impl Block {
     {
         let line = self.lines[place];
         ScriptLine {
-            line: line.number(),
+            line: line.number,
             target: whole(&self.objects, line.brief),
         }
     }
@@ -180,13 +168,13 @@ impl Block {
 #[inline(always)]
 fn shortened(objects: &mut Vec<u32>, action: Action, numbers: &[u32; 8]) -> Brief
     requires room { vec_len objects.old + 8 ≤ vec_capacity objects.old }
-    requires bounded { vec_len objects.old < 2 ^ 16 }
+    requires bounded { vec_len objects.old < 2 ^ 32 }
     ensures target { target_in objects.new.items result ≡ target_of numbers.now action }
     ensures fits { FitsIn (length objects.new.items) result }
     ensures grown { Grown objects.old.items objects.new.items }
     ensures len { vec_len objects.new ≤ vec_len objects.old + 8 }
 {
-    let first = objects.len() as u16;
+    let first = objects.len() as u32;
     match action {
         Action::Event { event } => {
             add_first(objects, numbers, event.mask.count_ones() as usize);

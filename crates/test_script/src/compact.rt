@@ -71,7 +71,7 @@ pub(crate) fn blocks(alloc: Global, case: &Case) -> Result<String, SpecError> {
 
 fn counted(alloc: Global, script: CompactScript, spec: u8) -> Result<String, NoMemory> {
     let mut numbers = String::new(alloc);
-    for place in [0, 511, 512, 1023, 1024] {
+    for place in [0, 16_383, 16_384, 32_767, 32_768] {
         put_number(alloc, &mut numbers, &script, place)?;
     }
     let mut lines = 0usize;
