@@ -1,6 +1,6 @@
 -- What flags of objects tell of a history and of an event.
 use Rattle.std.proofs.Common.{◌≡◌, ℕ, zero, suc, ◌<◌, Bool, true, false, not, cond, List, [], ◌∷◌, take, inl, inr, refl, ◌∙◌, ap, subst}
-use Rattle.std.specs.Prelude.{Contains, Some, None, Option, All, find}
+use Rattle.std.specs.Prelude.{Contains, Some, None, Option, All, find, slice_get}
 use Rattle.std.specs.List.{list_any}
 use Rattle.std.proofs.lemmas.List.Elements.{All-contains}
 use Rattle.jm_model.specs.Bindings.{object_at, objects_of}
@@ -13,6 +13,7 @@ use Rattle.jm_semantics.specs.Histories.{first_dead}
 use Rattle.jm_semantics.specs.Legality.{IsStepOf}
 use Rattle.jm_semantics.proofs.ListLemmas.{Contains-nil, Contains-cons_cases}
 use Rattle.jm_marks.specs.Marks.{is_dead_object, has_live}
+use Rattle.jm_marks.proofs.DeadLemmas.{alive_of}
 use Rattle.jm_index.specs.Index.{AreBelow}
 use Rattle.jm_monitors.specs.Deaths.{AreFlagsOf}
 use Rattle.jm_monitors.specs.Steps.{IsLiveEvent}
@@ -40,6 +41,15 @@ none_found test (y ∷ xs) x n h =
       | inl same ↦ subst (λ z. test z ≡ false) same parts.0
       | inr later ↦ none_found test xs x parts.1 later
     ]
+
+-- a search that no object passes finds nothing
+none_passes : (test : ℕ → Bool) (xs : List ℕ) → ((x : ℕ) → test x ≡ false) → find test xs ≡ None
+none_passes test [] h = refl
+none_passes test (y ∷ xs) h = rw (h y) (none_passes test xs h)
+
+-- where no object is dead, none of a binding's is
+pub none_dead : (dead : List Bool) (b : Binding) → ((o : ℕ) → slice_get dead o ≡ Some true → ⊥) → first_dead_by dead b ≡ None
+none_dead dead b h = none_passes (is_dead_object dead) (objects_of b) (λ o. alive_of dead o (h o))
 
 -- an event that binds no dead object is a live one
 pub live_event : (m : Meaning) (dead : List Bool) (e : Letter) (b : Binding) → IsStepOf m (Event e b) → first_dead_by dead b ≡ None → IsLiveEvent m dead e.0 b

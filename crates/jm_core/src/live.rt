@@ -154,6 +154,9 @@ fn first_dead(objects: &Objects, binding: &Binding) -> Option<u32>
     requires in_range { AreBelow (length objects.now) binding.now }
     ensures { result ≡ first_dead_by objects.now binding.now }
 {
+    if !objects.any_dead() {
+        return None;
+    }
     for p in 0..8 {
         if let Some(object) = binding.get(p) {
             if objects.is_dead(object) {

@@ -1,6 +1,7 @@
 -- The parameters that are bound to dead objects, one after another from the last.
 use Rattle.std.proofs.Common.{◌≡◌, ℕ, zero, suc, ◌+◌, ◌-◌, ◌*◌, ◌^◌, ◌<◌, ◌≤◌, Bool, true, false, cond, ◌||◌, List, [], ◌∷◌, Option, Some, None, length, drop, refl, ◌∙◌, ap, arith, pow-suc, length-drop, add_comm}
 use Rattle.std.proofs.Math.Pow.{pow_mono}
+use Rattle.std.specs.Prelude.{slice_get}
 use Rattle.jm_model.specs.Bindings.{object_at, mask_of, mask_where}
 use Rattle.jm_marks.specs.Marks.{is_dead_object, is_at_dead, is_at_live, dead_mask_of, has_live}
 
@@ -37,6 +38,21 @@ dead_mask-none flags [] e = refl
 dead_mask-none flags (None ∷ b) e =
     let ih = dead_mask-none flags b (omega arith) in omega arith
 dead_mask-none flags (Some o ∷ b) e = absurd (omega arith)
+
+-- an object of which it isn't said that it is dead is alive
+pub alive_of : (flags : List Bool) (o : ℕ) → (slice_get flags o ≡ Some true → ⊥) → is_dead_object flags o ≡ false
+alive_of [] o h = refl
+alive_of (true ∷ flags) zero h = absurd (h refl)
+alive_of (false ∷ flags) zero h = refl
+alive_of (x ∷ flags) (suc o) h = alive_of flags o h
+
+-- and where that holds of all objects, no parameter is bound to a dead one
+pub dead_mask-alive : (flags : List Bool) (b : List (Option ℕ)) → ((o : ℕ) → is_dead_object flags o ≡ false) → dead_mask_of flags b ≡ 0
+dead_mask-alive flags [] h = refl
+dead_mask-alive flags (None ∷ b) h = let ih = dead_mask-alive flags b h in omega arith
+dead_mask-alive flags (Some o ∷ b) h =
+    let ih = dead_mask-alive flags b h in
+    rw (h o) (omega arith)
 
 -- nor in what lies after as many parameters as the mask has room in
 mask_of-behind : (b : List (Option ℕ)) (p : ℕ) → mask_of b < 2 ^ p → mask_of (drop p b) ≡ 0

@@ -12,6 +12,9 @@ use jm_objects::Objects;
 pub fn dead_mask(objects: &Objects, binding: &Binding) -> u8
     ensures { result ≡ dead_mask_of objects.now binding.now }
 {
+    if !objects.any_dead() {
+        return 0;
+    }
     let mask = binding.mask();
     let mut dead = 0;
     let mut p = room_for(mask);

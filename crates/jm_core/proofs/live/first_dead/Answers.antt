@@ -5,9 +5,12 @@ use Rattle.std.proofs.lemmas.Option.{get_or_from_slice_get, same_Some}
 use Rattle.jm_model.specs.Bindings.{object_at}
 use Rattle.jm_marks.specs.Marks.{is_dead_object}
 use Rattle.jm_core.specs.Inside.{first_dead_by}
-use Rattle.jm_core.proofs.FlagLemmas.{found_first, none_yet}
+use Rattle.jm_core.proofs.FlagLemmas.{found_first, none_dead, none_yet}
 use Rattle.jm_core.proofs.live.first_dead.Goals as goal
 use Rattle.jm_core.proofs.live.first_dead.Goals.{in-Some+else-is_dead, in_default}
+
+pub returns-then-not-any_dead : goal.returns-then-not-any_dead
+returns-then-not-any_dead c = sym (none_dead c.args.objects.now c.args.binding.now (c.any_dead.ensures c.if-not-any_dead.true))
 
 pub is_dead-requires : goal.is_dead-requires
 is_dead-requires c = c.requires.in_range c.in-Some.object (c.loop-p.p, sym c.get.ensures ∙ c.in-Some.is)

@@ -1,6 +1,9 @@
 use Rattle.std.proofs.Common.{◌<◌, ◌≤◌, ◌^◌, subst, sym, length, arith}
-use Rattle.jm_marks.proofs.DeadLemmas.{dead_mask-behind, dead_mask-room, dead_mask-before}
+use Rattle.jm_marks.proofs.DeadLemmas.{alive_of, dead_mask-alive, dead_mask-behind, dead_mask-room, dead_mask-before}
 use Rattle.jm_marks.proofs.dead.dead_mask.Goals as goal
+
+pub returns-then-not-any_dead : goal.returns-then-not-any_dead
+returns-then-not-any_dead c = sym (dead_mask-alive _ _ (λ o. alive_of _ o (c.any_dead.ensures c.if-not-any_dead.true o)))
 
 pub loop-p-init : goal.loop-p-init
 loop-p-init c = record {
