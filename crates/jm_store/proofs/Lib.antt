@@ -23,6 +23,7 @@ pub mod RestingLemmas
 pub mod SparedLemmas
 pub mod StoreLemmas
 mod AdvanceLemmas
+mod AloneLemmas
 mod DirectLemmas
 pub mod ListedLemmas
 pub mod SettledLemmas

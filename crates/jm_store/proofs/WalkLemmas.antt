@@ -90,13 +90,6 @@ dead_by_word flags words o each off = elim (cases_lt o (length flags)) [
   | inr high ↦ get_or_past flags o false high
 ]
 
--- an object of which it isn't said that it is dead is alive
-pub alive_of : (flags : List Bool) (o : ℕ) → (slice_get flags o ≡ Some true → ⊥) → is_dead_object flags o ≡ false
-alive_of [] o h = refl
-alive_of (true ∷ flags) zero h = absurd (h refl)
-alive_of (false ∷ flags) zero h = refl
-alive_of (x ∷ flags) (suc o) h = alive_of flags o h
-
 -- ---- what the numbers tell of a monitor
 shifts-nothing : (n : ℕ) → Shifts n ≡ Nothing → ⊥
 shifts-nothing n is = subst is_shift is tt

@@ -1,6 +1,6 @@
 -- How the monitors of a list are read, where their numbers tell what the event makes of them, and how those that it
 -- changes get other numbers.
-use Rattle.std.specs.Prelude.{ℕ, ◌≡◌, ◌≢◌, ◌<◌, ◌↔◌, IsTrue, Bool, true, false, List, Option, Some, None, Contains, length, slice_get, slice_index_or}
+use Rattle.std.specs.Prelude.{ℕ, ◌≡◌, ◌≢◌, ◌<◌, ◌↔◌, IsTrue, Bool, true, false, List, Option, Some, None, Contains, length, slice_get, slice_index_or, slice_set}
 use Rattle.std.specs.Int.{bit_at}
 use Rattle.jm_model.specs.Words.{Mask, Word}
 use Rattle.jm_model.specs.Bindings.{is_below, mask_of, object_at}
@@ -85,6 +85,16 @@ module _ (m : Meaning) {S : Type 0} (Stands : S → Word → Type 0) (HasNumber 
     pub low : letter < m.letters
     pub marked : IsTrue known ↔ Contains marks b
 
+  module _ (dead : List Bool) where
+    -- The letter moves the monitor, whose state has a number and of which nothing is dead, to each state with the other
+    -- number.
+    pub record IsPlainFor (base : Stored S) (number : ℕ) : Type 0 where
+      pub before : ℕ
+      pub has : HasNumber base.state before
+      pub low : number < most_numbers
+      pub whole : dead_mask_of dead base.instance ≡ 0
+      pub moves : (after : S) → HasNumber after number → IsPlainMove S m Stands letter base.state after
+
   module _ (dead : List Bool) (b : Binding) (ending : List Mask) where
     -- The event moves the monitor of a slot with this card, above b, whose state has a number, to each state with the
     -- other number, and that is all: nothing of the monitor is dead, its slot is in the lists of all letters that have
@@ -145,6 +155,23 @@ pub record AreShifted {S : Type 0} (HasNumber : S → ℕ → Type 0) (shifts : 
   pub others : (k : ℕ) → ((shift : Shift) → Contains shifts shift → shift.slot ≡ k → ⊥)
       → monitor_at after k ≡ monitor_at before k
   pub size : length after ≡ length before
+
+-- the letter leaves the monitor as it is, and nothing of it is dead
+abbrev pub IsRestingAlone : (m : Meaning) {S : Type 0} (Stands : S → Word → Type 0) → ℕ → List Bool → Stored S → Type 0
+IsRestingAlone m {S} Stands letter dead base = RestsBy S m Stands letter base.state × (dead_mask_of dead base.instance ≡ 0)
+
+-- what the number of a monitor's state tells of an event that moves the monitor
+abbrev pub IsToldAlone : (m : Meaning) {S : Type 0} (Stands : S → Word → Type 0) (HasNumber : S → ℕ → Type 0)
+    → ℕ → List Bool → Stored S → Told → Type 0
+IsToldAlone m {S} Stands HasNumber letter dead base (Shifts number) = IsPlainFor m Stands HasNumber letter dead base number
+IsToldAlone m {S} Stands HasNumber letter dead base Rests = IsRestingAlone m Stands letter dead base
+IsToldAlone m {S} Stands HasNumber letter dead base Nothing = Unit {0}
+
+-- the monitor s of a slot whose state had a number got a state with this number, and no other slot changed
+abbrev pub IsRenumbered : {S : Type 0} → (S → ℕ → Type 0) → ℕ → ℕ → Stored S → List (Slot S) → List (Slot S) → Type 0
+IsRenumbered {S} HasNumber number slot s old new =
+    (state : S) × (new ≡ slice_set old slot (Taken (record { instance = s.instance; state = state })))
+    × ((k : ℕ) → HasNumber s.state k → HasNumber state number)
 
 -- a slot has as much as it had: a monitor of the same instance, or none
 abbrev pub IsAlike : {S : Type 0} → Slot S → Slot S → Type 0

@@ -4,7 +4,7 @@ ghost use Rattle.jm_monitors.specs.declared.stored.Stored.{Stored as Kept};
 ghost use Rattle.jm_monitors.specs.Steps.{IsCutState, IsAliveState};
 ghost use Rattle.jm_marks.specs.Marks.{dead_mask_of};
 ghost use Rattle.jm_store.specs.Slots.{monitors_of, monitor_at, stored_in, slot_at, count_in, IsReserved};
-ghost use Rattle.jm_store.specs.Walks.{most_numbers, HaveMonitors, IsShifted, AreShifted, AreAlike};
+ghost use Rattle.jm_store.specs.Walks.{most_numbers, HaveMonitors, IsShifted, IsRenumbered, AreShifted, AreAlike};
 ghost use Rattle.jm_store.specs.declared.monitors.Slot.TheVariants.{Free, Planned, Taken};
 
 use crate::walk::Shift;
@@ -107,7 +107,8 @@ impl<S: Drop> Monitors<S> {
         }
     }
 
-    fn peek(&self, slot: usize) -> Option<&Stored<S>>
+    /// The monitor of a slot, which a caller has counted.
+    pub(crate) fn peek(&self, slot: usize) -> Option<&Stored<S>>
         ensures { MatchOption result (monitor_at (monitors_of self.now.slots) slot ≡ None)
             (λ s. monitor_at (monitors_of self.now.slots) slot ≡ Some s.now) }
     {
@@ -218,6 +219,20 @@ impl<S: Drop> Monitors<S> {
         ensures free { self.new.free ≡ self.old.free }
     {
         shift_all(rules, self.slots.as_mut_slice(), shifts);
+    }
+
+    /// Gives the monitor of a slot the state with a number.
+    #[inline(always)]
+    pub(crate) fn shift<M: Monitor<State = S>>(&mut self, rules: &M, slot: usize, number: u32)
+        requires present { (s : Kept S) × (monitor_at (monitors_of self.old.slots) slot ≡ Some s) }
+        requires low { number < most_numbers }
+        ensures { (s : Kept S) → monitor_at (monitors_of self.old.slots) slot ≡ Some s
+            → IsRenumbered (M.HasNumber rules.now) number slot s self.old.slots self.new.slots }
+    {
+        match &mut self.slots[slot] {
+            Slot::Taken(monitor) => rules.renumber(&mut monitor.state, number as u16),
+            _ => unreachable!(),
+        }
     }
 
     /// How many monitors there are.

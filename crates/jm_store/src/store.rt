@@ -13,6 +13,7 @@ mod dispose;
 mod listed;
 mod place;
 mod reach;
+mod slot;
 
 use crate::monitors::Monitors;
 use crate::moves::Move;

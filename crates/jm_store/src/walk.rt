@@ -372,7 +372,7 @@ fn push_shift(shifts: &mut [Shift], count: &mut usize, slot: u32, number: u32)
 
 /// What a row has at a number.
 #[inline(always)]
-fn number_at(row: &[u16], number: u16) -> u16
+pub(crate) fn number_at(row: &[u16], number: u16) -> u16
     ensures { result ≢ no_number → slice_get row.now number ≡ Some result }
 {
     match row.get(number as usize) {

@@ -36,7 +36,7 @@ pub struct Done {
 
 impl Done {
     /// What an event comes to that neither moves a monitor nor makes one: no handler runs.
-    fn nothing(alloc: Global) -> Done
+    pub(super) fn nothing(alloc: Global) -> Done
         ensures answer { result.answer ≡ [] }
         ensures copy { result.copy ≡ [] }
     {
@@ -146,59 +146,6 @@ impl<M: Monitor> Store<M> {
             return None;
         }
         Some(slots.pop())
-    }
-
-    /// Moves the monitor of a slot, if there is one, unless out of memory.
-    fn advance_slot<L: Ledger>(
-        &mut self,
-        call: &Call<'_, M>,
-        awake: &mut Awake,
-        slot: usize,
-        steps: &mut Steps<L>,
-    ) -> Option<Done>
-        requires closed { self.old.is_open ≡ false }
-        requires letter { call.now.letter.0 < (M.meaning (M.definition call.now.rules.now)).letters }
-        ensures unchanged { IfNone result (self.new ≡ self.old) }
-        ensures stays { StaysClosed self.old self.new }
-        ensures done { IfSome result (IsSlotDone (M.meaning (M.definition call.now.rules.now))
-            (M.StandsFor call.now.rules.now) call.now.letter.0 call.now.objects.now slot self.old self.new) }
-        ensures listed { KeepListed (M.meaning (M.definition call.now.rules.now)) (M.StandsFor call.now.rules.now)
-            call.now.objects.now self.old.monitors self.new.monitors awake.old awake.new }
-        ensures steps { steps.new ≤ steps.old + 1 }
-    {
-        let base = self.monitors.lend(slot, steps)?;
-        let Ok(state) = call.rules.next(&base.state, call.letter) else {
-            return None;
-        };
-        let Ok(answer) = report_one(
-            *self.domains.allocator(),
-            call.rules,
-            &base.instance,
-            &state,
-        ) else {
-            return None;
-        };
-        let Ok(copy) = answer.copy() else {
-            return None;
-        };
-        let stays = !call
-            .rules
-            .cut(&state, dead_mask(call.objects, &base.instance));
-        end_fewer(
-            &mut self.ending,
-            base.instance.mask(),
-            call.rules.ending(&state),
-        );
-        let instance = base.instance;
-        if stays {
-            wake(awake, slot, &instance);
-            self.monitors.put(slot, Stored { instance, state });
-        } else {
-            awake.leave(slot);
-            self.index.remove(&instance);
-            self.monitors.release(slot);
-        }
-        Some(Done { answer, copy })
     }
 
     /// Does an event with a binding above which several monitors may be, or one that may make a new instance.

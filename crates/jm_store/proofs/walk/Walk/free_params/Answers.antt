@@ -1,7 +1,8 @@
 use Rattle.std.proofs.Common.{ℕ, ◌-◌, ◌<◌, ◌^◌, sym, subst, arith}
 use Rattle.jm_model.specs.Bindings.{mask_of}
 use Rattle.jm_store.specs.Walks.{AreAliveBut}
-use Rattle.jm_store.proofs.WalkLemmas.{alive_of, others_free}
+use Rattle.jm_marks.proofs.DeadLemmas.{alive_of}
+use Rattle.jm_store.proofs.WalkLemmas.{others_free}
 use Rattle.jm_store.proofs.walk.Walk.free_params.Goals as goal
 
 pub returns-then-any_dead : goal.returns-then-any_dead
