@@ -208,6 +208,12 @@ steps_of_block P (b ∷ blocks) (suc k) block at all = steps_of_block P blocks k
     behind [] ys all = all
     behind (x ∷ xs) ys all = behind xs ys (All-tail P x (xs ++ ys) all)
 
+-- a step that follows the first ones of those that all fit
+pub step_fits : (P : ℕ × Step → Type 0) (done : List (ℕ × Step)) (step : ℕ × Step) (rest whole : List (ℕ × Step)) → (done ++ step ∷ []) ++ rest ≡ whole → All P whole → P step
+step_fits P [] step rest whole is all = All-head P step rest (subst (All P) (sym is) all)
+step_fits P (x ∷ done) step rest whole is all =
+    step_fits P done step rest ((done ++ step ∷ []) ++ rest) refl (All-tail P x ((done ++ step ∷ []) ++ rest) (subst (All P) (sym is) all))
+
 pub map_same : {A : Type 0} (xs : List A) → map (λ x. x) xs ≡ xs
 map_same [] = refl
 map_same (x ∷ xs) = ap (λ l. x ∷ l) (map_same xs)

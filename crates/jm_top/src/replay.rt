@@ -1,8 +1,12 @@
 //! Replaying a script.
-ghost use Rattle.std.specs.Prelude.{◌≡◌, List, All, IfOk, length};
+ghost use Rattle.std.specs.Prelude.{◌≡◌, List, All, IfOk, OnOk, length};
+ghost use Rattle.jm_semantics.specs.Legality.{IsLegal};
+ghost use Rattle.jm_semantics.specs.Scripts.{projection_of};
 ghost use Rattle.jm_machine.specs.Meanings.{rules_meaning};
 ghost use Rattle.jm_model.specs.declared.step.Entry.{Entry};
 ghost use Rattle.jm_core.specs.Steps.{IsFitStep};
+ghost use Rattle.jm_core.specs.Replays.{Replayed};
+ghost use Rattle.jm_script.specs.Projections.{script_of};
 ghost use Rattle.jm_script.specs.Blocks.{steps_in};
 ghost use Rattle.jm_print.specs.Texts.{IsPrintable};
 ghost use Rattle.jm_inputs.specs.Reading.{named_entry, titled, specs_in, IsCatalogued, AreCounted};
@@ -18,6 +22,7 @@ use jm_model::{Monitor, NoMemory};
 use jm_print::render_history;
 use jm_script::Block;
 use std::alloc::Global;
+use std::slice;
 
 /// The printed history of the one script, replayed over the one specification. The lines of the script are let go as
 /// they are done, and of the core nothing but the rules and the history is left for the printing. A script that can be
@@ -120,9 +125,24 @@ fn core_after<M: Monitor>(
 {
     let mut prop = Prop::new(alloc, rules, objects)?;
     for block in blocks {
-        let mut steps = Vec::with_capacity(alloc, block.len())?;
-        block.add_steps(0, &mut steps)?;
-        prop.replay(0, steps.as_slice())?;
+        replay_block(&mut prop, &block)?;
     }
     Ok(prop)
+}
+
+/// Does the steps that a block has for the one specification, line by line, as the one caller.
+fn replay_block<M: Monitor>(prop: &mut Prop<M>, block: &Block) -> Result<(), NoMemory>
+    requires { All (λ step. IsFitStep (M.meaning prop.old.definition) prop.old.objects step.1)
+        (projection_of (script_of block.now) 0) }
+    ensures replayed { OnOk result (Replayed 0 (projection_of (script_of block.now) 0) prop.old prop.new) }
+    ensures legal { IsLegal (M.meaning prop.new.definition) prop.new.entries }
+{
+    let _history = prop.history();
+    for place in 0..block.len() {
+        let line = block.line(place);
+        if let Some(step) = line.target.step_for(0) {
+            prop.replay(0, slice::from_ref(&(line.line, step)))?;
+        }
+    }
+    Ok(())
 }

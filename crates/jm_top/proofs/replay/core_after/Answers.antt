@@ -1,4 +1,4 @@
-use Rattle.std.proofs.Common.{◌≡◌, ℕ, List, ◌++◌, length, Some, slice_get, refl, sym, ap, ◌∙◌, subst}
+use Rattle.std.proofs.Common.{◌≡◌, ℕ, length, Some, slice_get, refl, sym, ◌∙◌, subst}
 use Rattle.std.specs.Prelude.{All}
 use Rattle.std.proofs.lemmas.Option.{slice_get_read}
 use Rattle.std.proofs.lemmas.Iterator.Adapters.{YieldsList-from_vec}
@@ -12,8 +12,8 @@ use Rattle.jm_script.specs.Blocks.{steps_in}
 use Rattle.jm_top.proofs.HistoryLemmas.{replay_of, replayed_none, replayed_more, steps_of_block, steps_in-more, map_same}
 use Rattle.jm_top.proofs.replay.core_after.Goals as goal
 
-pub replay-requires : goal.replay-requires
-replay-requires g c =
+pub replay_block-requires : goal.replay_block-requires
+replay_block-requires g c =
     let blocks = c.args.blocks.items in
     let done = c.loop-block.invariant.done in
     let b = c.into_iter-block-iterator.ensures.into_iter_gives in
@@ -21,10 +21,8 @@ replay-requires g c =
     let at : slice_get blocks (length c.loop-block.yielded) ≡ Some c.in-Some.block = slice_get_read blocks (length blocks) (length c.loop-block.yielded) c.in-Some.block refl t.0 t.1 in
     let fits = steps_of_block (λ (step : ℕ × Step). IsFitStep (g.M.Monitor.meaning (g.M.Monitor.definition c.args.rules)) c.args.objects step.1) blocks (length c.loop-block.yielded) c.in-Some.block at c.requires in
     let own = projection_of (script_of c.in-Some.block) 0 in
-    let given = c.as_slice.ensures.value ∙ c.in_ok-add_steps.ensures.ok ∙ ap (λ steps. steps ++ own) c.in_ok-steps.ensures.items in
-    subst (λ (steps : List (ℕ × Step)). All (λ (step : ℕ × Step). IsFitStep (g.M.Monitor.meaning c.loop-block.prop.definition) c.loop-block.prop.objects step.1) steps) (sym given)
-    (subst (λ d. All (λ (step : ℕ × Step). IsFitStep (g.M.Monitor.meaning d) c.loop-block.prop.objects step.1) own) (sym (done.grown.definition ∙ c.in_ok-prop.ensures.definition))
-    (subst (λ n. All (λ (step : ℕ × Step). IsFitStep (g.M.Monitor.meaning (g.M.Monitor.definition c.args.rules)) n step.1) own) (sym (done.grown.objects ∙ c.in_ok-prop.ensures.objects)) fits))
+    subst (λ d. All (λ (step : ℕ × Step). IsFitStep (g.M.Monitor.meaning d) c.loop-block.prop.objects step.1) own) (sym (done.grown.definition ∙ c.in_ok-prop.ensures.definition))
+    (subst (λ n. All (λ (step : ℕ × Step). IsFitStep (g.M.Monitor.meaning (g.M.Monitor.definition c.args.rules)) n step.1) own) (sym (done.grown.objects ∙ c.in_ok-prop.ensures.objects)) fits)
 
 pub loop-block-init : goal.loop-block-init
 loop-block-init g c = record { legal = c.in_ok-prop.ensures.legal; done = replayed_none 0 c.in_ok-prop.prop }
@@ -32,11 +30,10 @@ loop-block-init g c = record { legal = c.in_ok-prop.ensures.legal; done = replay
 pub loop-block-preserved : goal.loop-block-preserved
 loop-block-preserved g c =
     let own = projection_of (script_of c.in-Some.block) 0 in
-    let given = c.as_slice.ensures.value ∙ c.in_ok-add_steps.ensures.ok ∙ ap (λ steps. steps ++ own) c.in_ok-steps.ensures.items in
     record {
-      legal = c.in_ok-replay.ensures.legal;
-      done = subst (λ steps. Replayed 0 steps c.in_ok-prop.prop c.replay.new.self) (sym (steps_in-more c.loop-block.yielded c.in-Some.block))
-          (replayed_more 0 (steps_in 0 c.loop-block.yielded) own c.in_ok-prop.prop c.loop-block.prop c.replay.new.self c.loop-block.invariant.done (rw given at c.in_ok-replay.ensures.ok));
+      legal = c.in_ok-replay_block.ensures.legal;
+      done = subst (λ steps. Replayed 0 steps c.in_ok-prop.prop c.replay_block.new.prop) (sym (steps_in-more c.loop-block.yielded c.in-Some.block))
+          (replayed_more 0 (steps_in 0 c.loop-block.yielded) own c.in_ok-prop.prop c.loop-block.prop c.replay_block.new.prop c.loop-block.invariant.done c.in_ok-replay_block.ensures.replayed);
     }
 
 pub returns-clause-definition : goal.returns-clause-definition
