@@ -12,7 +12,7 @@ use Rattle.jm_earley.specs.declared.earley_set.EarleySet.{EarleySet}
 use Rattle.jm_earley.specs.Kept.{place_at}
 use Rattle.jm_earley.specs.Items.{symbol_after, finished_left}
 use Rattle.jm_earley.specs.Growth.{Grows, IsAdvancedOver, AreAdvancedOver, completes, IsWorked}
-use Rattle.jm_earley.specs.AwaitIndex.{IsEmpty, IsWaiting, IsWithWaiting, AreWaiting, IsStepOver}
+use Rattle.jm_earley.specs.AwaitIndex.{IsEmpty, IsWaiting, AreWaiting, IsStepOver}
 use Rattle.jm_earley.proofs.PlaceLemmas.{take_next}
 use Rattle.jm_earley.proofs.GrowthLemmas.{grows_weaker}
 
@@ -37,6 +37,10 @@ module _ (g : GrammarDefinition) where
   pub not_a_letter : (x : Item) (a : LetterType) (n : ℕ) → symbol_after g x ≡ Some (Letter a) → symbol_after g x ≡ Some (Nonterminal n) → ⊥
   not_a_letter x a n one two = let e : Letter a ≡ Nonterminal n = same_Some (Letter a) (Nonterminal n) (sym one ∙ two) in absurd (cc)
 
+  -- the lists after an item is added to that of the nonterminal that it awaits, if it does
+  abbrev pub IsWithWaiting : List (List Item) → Item → List (List Item) → Type 0
+  IsWithWaiting old x new = (n : ℕ) (y : Item) → Contains (get_or new n []) y ↔ (Contains (get_or old n []) y ⊎ ((x ≡ y) × (symbol_after g x ≡ Some (Nonterminal n))))
+
   -- no item yet
   pub waiting_none : (lists : List (List Item)) → IsEmpty lists → IsWaiting g [] lists
   waiting_none lists empty n x = (
@@ -45,12 +49,12 @@ module _ (g : GrammarDefinition) where
   )
 
   -- an item that awaits no nonterminal
-  pub waiting_same : (lists : List (List Item)) (x : Item) → ((n : ℕ) → symbol_after g x ≡ Some (Nonterminal n) → ⊥) → IsWithWaiting g lists x lists
+  pub waiting_same : (lists : List (List Item)) (x : Item) → ((n : ℕ) → symbol_after g x ≡ Some (Nonterminal n) → ⊥) → IsWithWaiting lists x lists
   waiting_same lists x other n y = (λ there. inl there, λ either. elim either [ inl there ↦ there | inr (is, after) ↦ absurd (other n after) ])
 
   -- an item that awaits one
   pub waiting_more : (lists new : List (List Item)) (x : Item) (n : ℕ) → symbol_after g x ≡ Some (Nonterminal n) → get_or new n [] ≡ get_or lists n [] ++ x ∷ []
-      → ((m : ℕ) → m ≢ n → get_or new m [] ≡ get_or lists m []) → IsWithWaiting g lists x new
+      → ((m : ℕ) → m ≢ n → get_or new m [] ≡ get_or lists m []) → IsWithWaiting lists x new
   waiting_more lists new x n after here others m y = elim (eqb_tells m n) [
     | inl same ↦ subst (λ (k : ℕ). Contains (get_or new k []) y ↔ (Contains (get_or lists k []) y ⊎ ((x ≡ y) × (symbol_after g x ≡ Some (Nonterminal k))))) (sym same.1) (
       λ there. elim (Contains-push_cases (get_or lists n []) x y (subst (λ (l : List Item). Contains l y) here there)) [ inl old ↦ inl old | inr is ↦ inr (is, after) ],
@@ -69,7 +73,7 @@ module _ (g : GrammarDefinition) where
   ]
 
   -- one item more
-  pub waiting_next : (items : List Item) (lists new : List (List Item)) (i : ℕ) (x : Item) → slice_get items i ≡ Some x → IsWaiting g (take i items) lists → IsWithWaiting g lists x new → IsWaiting g (take (i + 1) items) new
+  pub waiting_next : (items : List Item) (lists new : List (List Item)) (i : ℕ) (x : Item) → slice_get items i ≡ Some x → IsWaiting g (take i items) lists → IsWithWaiting lists x new → IsWaiting g (take (i + 1) items) new
   waiting_next items lists new i x at before added n y =
       let longer = take_next items i x at in (
         λ there. elim ((added n y).0 there) [

@@ -7,16 +7,15 @@ use Rattle.jm_grammar.specs.declared.grammar.GrammarSymbol.{GrammarSymbol}
 use Rattle.jm_grammar.specs.declared.grammar.GrammarSymbol.TheVariants.{Letter, Nonterminal}
 use Rattle.jm_grammar.specs.declared.grammar.Production.{Production}
 use Rattle.jm_grammar.specs.Grammars.{GrammarDefinition}
-use Rattle.jm_grammar.specs.Meanings.{Trees, no_tree, leaf, IsWord, IsHopeless, IsIn}
+use Rattle.jm_grammar.specs.Meanings.{Trees, no_tree, leaf, IsWord, IsHopeless, IsIn, DerivesSome}
 use Rattle.jm_grammar.proofs.RoundLemmas.{trees_append}
 use Rattle.jm_earley.specs.declared.item.Item.{Item}
 use Rattle.jm_earley.specs.Items.{IsAwaited, at_start, inside, IsItem, IsItemSet}
 use Rattle.jm_earley.specs.Continuations.{IsRest, at_end, within}
-use Rattle.jm_earley.specs.EarleySets.{AllSpell}
 use Rattle.jm_earley.proofs.ExtensionLemmas.{item_production, continued, found}
 use Rattle.jm_earley.proofs.SpellLemmas.{Contains-head}
 
-module _ (g : GrammarDefinition) (reduced : AllSpell g) where
+module _ (g : GrammarDefinition) (reduced : (n : ℕ) → IsIn g.productions n → DerivesSome g.productions n) where
   abbrev ps : List Production
   ps = g.productions
 

@@ -5,11 +5,18 @@ use Rattle.std.proofs.lemmas.List.Elements.{Contains-push_cases, Contains-push, 
 use Rattle.std.proofs.lemmas.Option.{same_Some, slice_get_within}
 use Rattle.jm_earley.specs.declared.item.Item.{Item}
 use Rattle.jm_earley.specs.declared.earley_set.EarleySet.{EarleySet}
-use Rattle.jm_earley.specs.Kept.{IsSorted, place_at, HasPlaceAt, IsPlaceNumber, AreLinked, IsReach, IsReachTo, IsFollowedBy}
+use Rattle.jm_earley.specs.Kept.{IsSorted, place_at, HasPlaceAt, IsPlaceNumber, AreLinked, IsReach, IsFollowedBy}
 use Rattle.jm_earley.proofs.PlaceLemmas.{place-Contains, slice_get-append, slice_get-push, slice_get-push_cases, take_next, get-take, take-get}
 use Rattle.jm_earley.proofs.KeptLemmas.{number_at, sorted_at, sorted_push, number_le}
 
 module _ (places : List EarleySet) where
+  -- the number after the place at a position, if that is more than the number so far
+  pub record IsReachTo (position : ℕ) (old new : ℕ) : Type 0 where
+    pub within : new ≤ length places
+    pub kept : old ≤ new
+    pub all : (number : ℕ) → IsPlaceNumber places position number → number < new
+    pub last : (new ≡ old) ⊎ ((number : ℕ) × (number + 1 ≡ new) × IsPlaceNumber places position number)
+
   -- ---- item by item
 
   pub reach_none : (items : List Item) → items ≡ [] → IsReach places items 0
@@ -19,7 +26,7 @@ module _ (places : List EarleySet) where
     last = λ number is. absurd (omega (arith, is));
   }
 
-  pub reach_next : (items : List Item) (i : ℕ) (x : Item) (old new : ℕ) → slice_get items i ≡ Some x → IsReach places (take i items) old → IsReachTo places x.origin old new → IsReach places (take (i + 1) items) new
+  pub reach_next : (items : List Item) (i : ℕ) (x : Item) (old new : ℕ) → slice_get items i ≡ Some x → IsReach places (take i items) old → IsReachTo x.origin old new → IsReach places (take (i + 1) items) new
   reach_next items i x old new at before step =
       let longer = take_next items i x at in
       record {
@@ -40,10 +47,10 @@ module _ (places : List EarleySet) where
 
   -- ---- a position
 
-  pub reach_same : (position count : ℕ) → count ≤ length places → ((number : ℕ) → IsPlaceNumber places position number → number < count) → IsReachTo places position count count
+  pub reach_same : (position count : ℕ) → count ≤ length places → ((number : ℕ) → IsPlaceNumber places position number → number < count) → IsReachTo position count count
   reach_same position count within all = record { within = within; kept = omega arith; all = all; last = inl refl }
 
-  pub reach_more : IsSorted places → (position count number : ℕ) → count ≤ number → IsPlaceNumber places position number → IsReachTo places position count (number + 1)
+  pub reach_more : IsSorted places → (position count number : ℕ) → count ≤ number → IsPlaceNumber places position number → IsReachTo position count (number + 1)
   reach_more sorted position count number more (p, at, is) = record {
     within = omega (arith, slice_get_within places number p at);
     kept = omega (arith, more);

@@ -1,5 +1,5 @@
 -- What is done to the items of a place, one by one.
-use Rattle.std.proofs.Common.{ℕ, ◌≡◌, ◌<◌, ◌+◌, inl, inr, List, [], Some, None, Result, Ok, Err, OnOk, length, slice_get, Contains, sym, ap, subst, ◌∙◌, arith}
+use Rattle.std.proofs.Common.{ℕ, ◌≡◌, ◌<◌, ◌+◌, inl, inr, List, [], Some, None, length, slice_get, Contains, sym, ap, subst, ◌∙◌, arith}
 use Rattle.std.proofs.lemmas.Bool.{cases_lt}
 use Rattle.std.proofs.lemmas.Option.{same_Some, slice_get_within}
 use Rattle.jm_model.specs.declared.step.Letter.{Letter as LetterType}
@@ -15,11 +15,6 @@ use Rattle.jm_earley.specs.Growth.{Grows, IsPrediction, ArePredicted, IsPredicte
 use Rattle.jm_earley.proofs.PlaceLemmas.{Contains-place, place-Contains, place_of, past_end}
 use Rattle.jm_earley.proofs.GrowthLemmas.{grows_then, grows_weaker, grows_contains}
 use Rattle.jm_earley.proofs.ItemLemmas.{after_parts, finished_parts}
-
--- what follows from two clauses at `Ok`
-pub on_ok_both : {T E P Q R : Type 0} (r : Result T E) → (P → Q → R) → OnOk r P → OnOk r Q → OnOk r R
-on_ok_both (Ok x) f p q = f p q
-on_ok_both (Err e) f p q = tt
 
 module _ (g : GrammarDefinition) where
   -- an item with a symbol after its dot is not finished

@@ -1,5 +1,5 @@
 -- Items by the nonterminal that they await.
-use Rattle.std.specs.Prelude.{ℕ, ◌≡◌, ◌↔◌, ◌⊎◌, List, [], Contains, Some, slice_index_or}
+use Rattle.std.specs.Prelude.{ℕ, ◌≡◌, ◌↔◌, List, [], Contains, Some, slice_index_or}
 use Rattle.jm_grammar.specs.declared.grammar.GrammarSymbol.TheVariants.{Nonterminal}
 use Rattle.jm_grammar.specs.Grammars.{GrammarDefinition}
 use Rattle.jm_earley.specs.declared.item.Item.{Item}
@@ -17,12 +17,6 @@ module _ (g : GrammarDefinition) where
   abbrev pub IsWaiting : List Item → List (List Item) → Type 0
   IsWaiting items lists = (n : ℕ) (x : Item)
       → Contains (slice_index_or lists n []) x ↔ (Contains items x × (symbol_after g x ≡ Some (Nonterminal n)))
-
-  -- the lists after an item is added to that of the nonterminal that it awaits, if it does
-  abbrev pub IsWithWaiting : List (List Item) → Item → List (List Item) → Type 0
-  IsWithWaiting old x new =
-      (n : ℕ) (y : Item) → Contains (slice_index_or new n []) y ↔ (Contains (slice_index_or old n []) y
-      ⊎ ((x ≡ y) × (symbol_after g x ≡ Some (Nonterminal n))))
 
   -- the lists of each place are those of its items
   abbrev pub AreWaiting : List EarleySet → Type 0

@@ -2,7 +2,7 @@
 use Rattle.std.specs.Prelude.{ℕ, ◌≡◌, ◌≢◌, ◌<◌, ◌≤◌, ◌↔◌, List, [], ◌++◌, All, Some, None, IsBitSet, IsTrue, length, take, slice_get}
 use Rattle.jm_model.specs.Words.{Word, Mask}
 use Rattle.jm_grammar.specs.Grammars.{GrammarDefinition}
-use Rattle.jm_grammar.specs.Meanings.{IsWord, IsIn, DerivesSome}
+use Rattle.jm_grammar.specs.Meanings.{IsWord}
 use Rattle.jm_earley.specs.declared.item.Item.{Item}
 use Rattle.jm_earley.specs.declared.letter_set.LetterSet.{LetterSet}
 use Rattle.jm_earley.specs.declared.continuation.Continuation.{Continuation}
@@ -53,7 +53,3 @@ module _ (g : GrammarDefinition) where
   abbrev pub IsAliveFor : List Mask → ℕ → Word → Type 0
   IsAliveFor params dead word =
       (more : Word) × All (IsAvailable params dead) more × IsWord g (word ++ more) × (more ≢ [])
-
-  -- each nonterminal that is in a production spells a word
-  abbrev pub AllSpell : Type 0
-  AllSpell = (n : ℕ) → IsIn g.productions n → DerivesSome g.productions n

@@ -46,13 +46,6 @@ module _ (places : List EarleySet) where
     pub all : (number : ℕ) → IsOrigin items number → number < count
     pub last : (number : ℕ) → number + 1 ≡ count → IsOrigin items number
 
-  -- the number after the place at a position, if that is more than the number so far
-  pub record IsReachTo (position : ℕ) (old new : ℕ) : Type 0 where
-    pub within : new ≤ length places
-    pub kept : old ≤ new
-    pub all : (number : ℕ) → IsPlaceNumber position number → number < new
-    pub last : (new ≡ old) ⊎ ((number : ℕ) × (number + 1 ≡ new) × IsPlaceNumber position number)
-
 -- The place is the last of the new ones, and the others are old ones: each where an item of a new one began, if no item
 -- began after its place, and none that the last place doesn't reach, if it was so before.
 pub record IsFollowedBy (old : List EarleySet) (place : EarleySet) (new : List EarleySet) : Type 0 where

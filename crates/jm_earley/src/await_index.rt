@@ -1,6 +1,6 @@
 //! The items of a place by the nonterminal that they await, for completions.
-ghost use Rattle.std.specs.Prelude.{ℕ, ◌≡◌, ◌≢◌, ◌<◌, [], ◌∷◌, ◌++◌, IfOk, OnOk, length, slice_index_or};
-ghost use Rattle.jm_earley.specs.AwaitIndex.{IsWaiting, IsWithWaiting};
+ghost use Rattle.std.specs.Prelude.{ℕ, ◌≡◌, ◌≢◌, ◌<◌, [], ◌∷◌, ◌++◌, IfOk, OnOk, slice_index_or};
+ghost use Rattle.jm_earley.specs.AwaitIndex.{IsWaiting};
 
 use crate::chart::Charts;
 use crate::item::Item;
@@ -39,30 +39,11 @@ impl AwaitIndex {
         ensures at_key { OnOk result (slice_index_or self.new n [] ≡ slice_index_or self.old n [] ++ item ∷ []) }
         ensures others { OnOk result ((m : ℕ) → m ≢ n → slice_index_or self.new m [] ≡ slice_index_or self.old m []) }
     {
-        self.extend(n)?;
-        self.put(n, item)
-    }
-
-    /// Adds empty lists up to that of a nonterminal.
-    fn extend(&mut self, n: u8) -> Result<(), NoMemory>
-        ensures in_range { OnOk result (n < length self.new) }
-        ensures unchanged { OnOk result ((m : ℕ) → slice_index_or self.new m [] ≡ slice_index_or self.old m []) }
-    {
         let alloc = *self.lists.allocator();
         'lists: while self.lists.len() <= n as usize {
             self.lists.push(Vec::new(alloc))?;
         }
-        Ok(())
-    }
-
-    /// Adds an item to the list of a nonterminal.
-    fn put(&mut self, n: u8, item: Item) -> Result<(), NoMemory>
-        requires { n < length self.old }
-        ensures at_key { OnOk result (slice_index_or self.new n [] ≡ slice_index_or self.old n [] ++ item ∷ []) }
-        ensures others { OnOk result ((m : ℕ) → m ≢ n → slice_index_or self.new m [] ≡ slice_index_or self.old m []) }
-    {
-        let list = &mut self.lists[n as usize];
-        list.push(item)?;
+        self.lists[n as usize].push(item)?;
         Ok(())
     }
 
@@ -85,19 +66,12 @@ impl Charts {
     {
         let mut waiting = AwaitIndex::new(alloc);
         for item in items {
-            self.add_waiting(&mut waiting, *item)?;
+            match self.symbol_after(*item) {
+                Some(GrammarSymbol::Nonterminal(n)) => waiting.add(n, *item)?,
+                Some(GrammarSymbol::Letter(_)) => {}
+                None => {}
+            }
         }
         Ok(waiting)
-    }
-
-    /// Adds an item, if it awaits a nonterminal.
-    fn add_waiting(&self, waiting: &mut AwaitIndex, item: Item) -> Result<(), NoMemory>
-        ensures { OnOk result (IsWithWaiting self.now.grammar waiting.old item waiting.new) }
-    {
-        match self.symbol_after(item) {
-            Some(GrammarSymbol::Nonterminal(n)) => waiting.add(n, item),
-            Some(GrammarSymbol::Letter(_)) => Ok(()),
-            None => Ok(()),
-        }
     }
 }

@@ -1,16 +1,16 @@
 //! Charts and what is asked of them (Earley 1970).
-ghost use Rattle.std.specs.Prelude.{ℕ, ◌≡◌, ◌==◌, ◌<◌, ◌≤◌, ◌+◌, ◌-◌, ◌↔◌, List, [], ◌∷◌, ◌++◌, Some, None, Any, IsTrue, IfSome, IfOk, map, length, slice_get, if◌then◌else◌};
+ghost use Rattle.std.specs.Prelude.{ℕ, ◌≡◌, ◌==◌, ◌<◌, ◌≤◌, ◌+◌, ◌-◌, ◌↔◌, List, [], ◌∷◌, ◌++◌, Some, None, IsTrue, IfSome, IfOk, map, length, slice_get, if◌then◌else◌};
 ghost use Rattle.jm_grammar.specs.declared.grammar.GrammarSymbol.{GrammarSymbol};
-ghost use Rattle.jm_grammar.specs.Grammars.{IsSmall, IsSmallSymbol, IsSmallProduction};
+ghost use Rattle.jm_grammar.specs.Grammars.{IsSmall, IsSmallSymbol};
 ghost use Rattle.jm_grammar.specs.Meanings.{IsWord, Derives, IsHopeless};
-ghost use Rattle.jm_earley.specs.Items.{symbol_after, finished_left, IsWhole};
+ghost use Rattle.jm_earley.specs.Items.{symbol_after, finished_left};
 ghost use Rattle.jm_earley.specs.declared.earley_set.EarleySet.{EarleySet};
 ghost use Rattle.jm_earley.specs.Kept.{IsSorted};
 ghost use Rattle.jm_earley.specs.AwaitIndex.{AreWaiting};
-ghost use Rattle.jm_earley.specs.Charts.{AreBelow, IsChartOf, IsChartWith, IsPlaceWith};
+ghost use Rattle.jm_earley.specs.Charts.{AreBelow, IsChartOf, IsChartWith};
 ghost use Rattle.jm_earley.specs.EarleySets.{IsAliveFor};
 
-use crate::continuation::{Continuations, is_hopeless};
+use crate::continuation::Continuations;
 use crate::dead::DeadSets;
 use crate::earley_set::{EarleySet, EarleySets};
 use crate::item::Item;
@@ -142,7 +142,10 @@ impl Charts {
     pub fn matches(&self, chart: &Chart) -> bool
         ensures { (word : List ℕ) → IsChartOf self.now word chart.now → IsTrue result ↔ IsWord self.now.grammar word }
     {
-        self.has_whole(chart.last().items.as_slice())
+        let items = chart.last().items.as_slice();
+        items.iter().any(|item| {
+            item.origin == 0 && self.finished_left(*item) == Some(self.grammar.start())
+        })
     }
 
     /// Whether no word that begins with the word, itself included, is in the language of the grammar.
@@ -152,7 +155,7 @@ impl Charts {
     {
         // The grammar is reduced: the proof learns it from the fields.
         let _ = &self.grammar;
-        is_hopeless(chart.last().items.as_slice())
+        chart.last().items.as_slice().is_empty()
     }
 
     /// Whether some word of one or more letters without a dead parameter, put after the word, is in the language of the
@@ -178,20 +181,6 @@ impl Charts {
             → IfOk result (IsChartWith self.now earlier.now position first) }
     {
         let items = self.close(earlier, position, first)?;
-        let place = self.place_with(earlier, position, items)?;
-        let places = earlier.followed_by(place)?;
-        Ok(Chart { places })
-    }
-
-    /// The place with these items, after earlier places.
-    fn place_with(
-        &self,
-        earlier: &EarleySets,
-        position: u32,
-        items: ItemSet,
-    ) -> Result<EarleySet, NoMemory>
-        ensures { IfOk result (IsPlaceWith self.now earlier.now position items) }
-    {
         let alloc = *self.params.allocator();
         let waiting = self.waiting(alloc, items.as_slice())?;
         let futures = Continuations::new(
@@ -201,12 +190,13 @@ impl Charts {
             items.as_slice(),
             earlier,
         )?;
-        Ok(EarleySet {
+        let places = earlier.followed_by(EarleySet {
             position,
             items,
             waiting,
             futures,
-        })
+        })?;
+        Ok(Chart { places })
     }
 
     pub(crate) fn productions(&self) -> &[Production]
@@ -222,10 +212,12 @@ impl Charts {
         ensures small { IfSome result IsSmallSymbol }
         ensures room { IfSome result (λ _. item.dot < 32) }
     {
-        match self.productions().get(item.production as usize) {
-            Some(production) => symbol_at(production, item.dot),
-            None => None,
-        }
+        let production = self.productions().get(item.production as usize)?;
+        production
+            .symbols
+            .as_slice()
+            .get(item.dot as usize)
+            .copied()
     }
 
     /// Whether the symbol stands after the dot of an item.
@@ -246,9 +238,11 @@ impl Charts {
     pub(crate) fn finished_left(&self, item: Item) -> Option<u8>
         ensures { result ≡ finished_left self.now.grammar item }
     {
-        match self.productions().get(item.production as usize) {
-            Some(production) => left_at_end(production, item.dot),
-            None => None,
+        let production = self.productions().get(item.production as usize)?;
+        if item.dot as usize == production.symbols.as_slice().len() {
+            Some(production.left)
+        } else {
+            None
         }
     }
 
@@ -258,39 +252,6 @@ impl Charts {
         ensures { IsTrue result ↔ Derives self.now.grammar.productions n [] }
     {
         contains(self.nullable, n)
-    }
-
-    fn has_whole(&self, items: &[Item]) -> bool
-        ensures { IsTrue result ↔ Any (IsWhole self.now.grammar) items.now }
-    {
-        items.iter().any(|item| self.is_whole(*item))
-    }
-
-    fn is_whole(&self, item: Item) -> bool
-        ensures { IsTrue result ↔ IsWhole self.now.grammar item }
-    {
-        item.origin == 0 && self.finished_left(item) == Some(self.grammar.start())
-    }
-}
-
-/// The symbol of a production at a place.
-fn symbol_at(production: &Production, place: u8) -> Option<GrammarSymbol>
-    requires { IsSmallProduction production.now }
-    ensures value { result ≡ slice_get production.now.symbols place }
-    ensures small { IfSome result IsSmallSymbol }
-    ensures room { IfSome result (λ _. place < 32) }
-{
-    production.symbols.as_slice().get(place as usize).copied()
-}
-
-/// The left side of a production, if the place is its end.
-fn left_at_end(production: &Production, place: u8) -> Option<u8>
-    ensures { result ≡ (if place == length production.now.symbols then Some production.now.left else None) }
-{
-    if place as usize == production.symbols.as_slice().len() {
-        Some(production.left)
-    } else {
-        None
     }
 }
 

@@ -7,8 +7,7 @@ ghost use Rattle.jm_earley.specs.Items.{IsItemSet};
 ghost use Rattle.jm_earley.specs.LetterSets.{IsExact};
 ghost use Rattle.jm_earley.specs.Rules.{IsGained};
 ghost use Rattle.jm_earley.specs.DeadSets.{AreDeadSets};
-ghost use Rattle.jm_grammar.specs.Meanings.{IsHopeless};
-ghost use Rattle.jm_earley.specs.EarleySets.{AllSpell, AreEarlier, AreFutures, IsFutureOf, IsAliveFor};
+ghost use Rattle.jm_earley.specs.EarleySets.{AreEarlier, AreFutures, IsFutureOf, IsAliveFor};
 
 use crate::dead::DeadSets;
 use crate::earley_set::EarleySets;
@@ -90,20 +89,8 @@ impl Continuations {
     fn get(&self, number: usize) -> Option<Continuation>
         ensures { result ≡ slice_get self.now.futures.items number }
     {
-        match self.futures.get(number) {
-            Some(future) => Some(*future),
-            None => None,
-        }
+        self.futures.get(number).copied()
     }
-}
-
-/// Whether no word of the grammar begins with the word that has these items, where each nonterminal of a production
-/// spells a word.
-pub(crate) fn is_hopeless(items: &[Item]) -> bool
-    ensures { (g : GrammarDefinition) (word : List ℕ) → AllSpell g → IsItemSet g word items.now
-        → IsTrue result ↔ IsHopeless g word }
-{
-    items.is_empty()
 }
 
 /// What may follow at an earlier place, of the letters of a set.

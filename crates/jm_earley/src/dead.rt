@@ -1,5 +1,5 @@
 //! For each set of dead parameters, the letters that it leaves.
-ghost use Rattle.std.specs.Prelude.{ℕ, ◌≡◌, ◌<◌, ◌≤◌, ◌↔◌, ◌++◌, List, All, IsBitSet, IfOk, IfSome, OnOk, Some, None, length, slice_get};
+ghost use Rattle.std.specs.Prelude.{ℕ, ◌≡◌, ◌<◌, ◌≤◌, ◌↔◌, ◌++◌, List, All, IsBitSet, IfOk, OnOk, Some, length, slice_get};
 ghost use Rattle.jm_earley.specs.declared.letter_set.LetterSet.{LetterSet};
 ghost use Rattle.jm_earley.specs.LetterSets.{IsExact};
 ghost use Rattle.jm_earley.specs.DeadSets.{IsAvailable, AreDeadSets};
@@ -44,10 +44,7 @@ impl DeadSets {
     pub(crate) fn number(&self, dead: u8) -> Option<usize>
         ensures { result ≡ slice_get self.now.numbers.items dead }
     {
-        match self.numbers.get(usize::from(dead)) {
-            Some(number) => Some(*number),
-            None => None,
-        }
+        self.numbers.get(usize::from(dead)).copied()
     }
 }
 
@@ -65,19 +62,6 @@ fn available(params: &[u8], dead: u8) -> u32
     letters
 }
 
-/// The number of the set of these letters, if it is there.
-fn find(sets: &[LetterSet], letters: u32) -> Option<usize>
-    ensures { IfSome result (λ number. (set : LetterSet) × (slice_get sets.now number ≡ Some set)
-        × (set.letters ≡ letters)) }
-{
-    for (number, set) in sets.iter().enumerate() {
-        if set.letters == letters {
-            return Some(number);
-        }
-    }
-    None
-}
-
 /// The number of the set of these letters, which is added if it is new.
 fn number_of(sets: &mut Vec<LetterSet>, grammar: &Grammar, letters: u32) -> Result<usize, NoMemory>
     ensures exact { OnOk result (All (IsExact grammar.now.productions) sets.old.items
@@ -86,8 +70,10 @@ fn number_of(sets: &mut Vec<LetterSet>, grammar: &Grammar, letters: u32) -> Resu
     ensures found { IfOk result (λ number. (set : LetterSet) × (slice_get sets.new.items number ≡ Some set)
         × (set.letters ≡ letters)) }
 {
-    if let Some(number) = find(sets.as_slice(), letters) {
-        return Ok(number);
+    for (number, set) in sets.iter().enumerate() {
+        if set.letters == letters {
+            return Ok(number);
+        }
     }
     let number = sets.len();
     let set = LetterSet::new(*sets.allocator(), grammar, letters)?;

@@ -1,7 +1,7 @@
 //! The Earley sets that a chart keeps, each of a place of the word.
 ghost use Rattle.std.specs.Prelude.{ℕ, ◌≡◌, ◌<◌, ◌≤◌, ◌+◌, ◌^◌, [], false, IsTrue, IfOk, IfSome, MatchOption, Some, None, length, slice_get};
 ghost use Rattle.jm_earley.specs.declared.earley_set.EarleySet.{EarleySet};
-ghost use Rattle.jm_earley.specs.Kept.{IsSorted, place_at, IsPlaceNumber, IsReach, IsReachTo, IsFollowedBy};
+ghost use Rattle.jm_earley.specs.Kept.{IsSorted, place_at, IsPlaceNumber, IsReach, IsFollowedBy};
 
 use crate::await_index::AwaitIndex;
 use crate::continuation::Continuations;
@@ -86,25 +86,13 @@ impl EarleySets {
     {
         // Where no set was left out, numbers are positions.
         let number = position as usize;
-        if self.is_at(number, position) {
+        if number < self.len() && self.at(number).position == position {
             return Some(number);
         }
         if self.is_passed(position, self.len()) {
             self.search(position)
         } else {
             None
-        }
-    }
-
-    /// Whether the set of a number is there, and at the position.
-    fn is_at(&self, number: usize, position: u32) -> bool
-        ensures value { IsTrue result → IsPlaceNumber self.now position number }
-        ensures sorted { IsSorted self.now }
-    {
-        if number < self.len() {
-            self.at(number).position == position
-        } else {
-            false
         }
     }
 
@@ -157,23 +145,15 @@ impl EarleySets {
     {
         let mut count = 0;
         for item in items {
-            count = self.reach_to(item.origin, count);
+            if self.is_passed(item.origin, count) {
+                continue;
+            }
+            match self.number_of(item.origin) {
+                Some(number) => count = number + 1,
+                None => {}
+            }
         }
         count
-    }
-
-    /// The number after the set at a position, if that is more than the number so far.
-    fn reach_to(&self, position: u32, count: usize) -> usize
-        requires { count ≤ length self.now }
-        ensures { IsReachTo self.now position count result }
-    {
-        if self.is_passed(position, count) {
-            return count;
-        }
-        match self.number_of(position) {
-            Some(number) => number + 1,
-            None => count,
-        }
     }
 
     /// Whether the last of the first sets is at the position or after it.

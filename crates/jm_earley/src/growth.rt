@@ -1,7 +1,6 @@
 //! The items of a place: what is read is worked through item by item, until the rules add nothing.
-ghost use Rattle.std.specs.Prelude.{ℕ, ◌≡◌, ◌<◌, [], Some, None, IfOk, OnOk, Contains};
+ghost use Rattle.std.specs.Prelude.{ℕ, ◌≡◌, ◌<◌, Some, None, IfOk, OnOk};
 ghost use Rattle.jm_grammar.specs.declared.grammar.GrammarSymbol.{GrammarSymbol};
-ghost use Rattle.jm_grammar.specs.Meanings.{Derives};
 ghost use Rattle.jm_earley.specs.declared.item.Item.{Item};
 ghost use Rattle.jm_earley.specs.Items.{symbol_after, advanced};
 ghost use Rattle.jm_earley.specs.Growth.{Grows, IsAdvancedOver, AreAdvancedOver, IsPrediction, ArePredicted, IsPredictedSet, IsWorked, IsClosure};
@@ -64,7 +63,10 @@ impl Charts {
         match self.symbol_after(item) {
             Some(GrammarSymbol::Nonterminal(n)) => {
                 self.predict(growth, place, n)?;
-                self.skip(&mut growth.set, item, n)
+                if self.is_nullable(n) {
+                    growth.set.add(advanced(item))?;
+                }
+                Ok(())
             }
             Some(GrammarSymbol::Letter(_)) => Ok(()),
             None => self.complete(kept, &mut growth.set, item),
@@ -105,20 +107,6 @@ impl Charts {
                     origin: place,
                 })?;
             }
-        }
-        Ok(())
-    }
-
-    /// Adds the item advanced over a nonterminal, where that spells the empty word.
-    fn skip(&self, set: &mut ItemSet, item: Item, n: u8) -> Result<(), NoMemory>
-        requires small { n < 64 }
-        requires room { item.dot < 32 }
-        ensures grows { OnOk result (Grows (λ x. Derives self.now.grammar.productions n []
-            × (x ≡ advanced item)) set.old set.new) }
-        ensures all { OnOk result (Derives self.now.grammar.productions n [] → Contains set.new (advanced item)) }
-    {
-        if self.is_nullable(n) {
-            set.add(advanced(item))?;
         }
         Ok(())
     }

@@ -1,6 +1,6 @@
 //! Which symbols spell words of some letters.
-ghost use Rattle.std.specs.Prelude.{◌≡◌, IfOk, map};
-ghost use Rattle.jm_earley.specs.LetterSets.{IsExact, is_spelled, are_spelled, is_letter, has_letter, with_nonterminal, nonterminals, can_spell, can_go_on, spelling_rule};
+ghost use Rattle.std.specs.Prelude.{◌≡◌, IfOk};
+ghost use Rattle.jm_earley.specs.LetterSets.{IsExact, are_spelled, has_letter, nonterminals, can_spell, can_go_on, spelling_rule};
 
 use crate::rule::{Rule, contains, gained, has, no_rule, only};
 use jm_grammar::{Grammar, GrammarSymbol, Production};
@@ -22,7 +22,10 @@ impl LetterSet {
         ensures exact { IfOk result (λ set. IsExact grammar.now.productions set) }
     {
         let spells = grammar.productive(letters);
-        let rules = spelling_rules(alloc, grammar.productions(), letters, spells)?;
+        let mut rules = Vec::new(alloc);
+        for production in grammar.productions() {
+            rules.push(spelling_rule(production, letters, spells))?;
+        }
         let goes_on = gained(rules.as_slice());
         Ok(LetterSet {
             letters,
@@ -46,45 +49,21 @@ impl LetterSet {
     }
 }
 
-fn is_spelled(symbol: GrammarSymbol, letters: u32, known: u64) -> bool
-    ensures { result ≡ is_spelled letters known symbol }
-{
-    match symbol {
-        GrammarSymbol::Letter(letter) => letter.0 < 32 && contains(u64::from(letters), letter.0),
-        GrammarSymbol::Nonterminal(n) => has(known, n),
-    }
-}
-
 fn are_spelled(symbols: &[GrammarSymbol], letters: u32, known: u64) -> bool
     ensures { result ≡ are_spelled letters known symbols.now }
 {
-    symbols
-        .iter()
-        .all(|symbol| is_spelled(*symbol, letters, known))
-}
-
-fn is_letter(symbol: GrammarSymbol) -> bool
-    ensures { result ≡ is_letter symbol }
-{
-    match symbol {
-        GrammarSymbol::Letter(_) => true,
-        GrammarSymbol::Nonterminal(_) => false,
-    }
+    symbols.iter().all(|symbol| match symbol {
+        GrammarSymbol::Letter(letter) => letter.0 < 32 && contains(u64::from(letters), letter.0),
+        GrammarSymbol::Nonterminal(n) => has(known, *n),
+    })
 }
 
 fn has_letter(symbols: &[GrammarSymbol]) -> bool
     ensures { result ≡ has_letter symbols.now }
 {
-    symbols.iter().any(|symbol| is_letter(*symbol))
-}
-
-fn with_nonterminal(known: u64, symbol: GrammarSymbol) -> u64
-    ensures { result ≡ with_nonterminal known symbol }
-{
-    match symbol {
-        GrammarSymbol::Letter(_) => known,
-        GrammarSymbol::Nonterminal(n) => known | only(n),
-    }
+    symbols
+        .iter()
+        .any(|symbol| matches!(symbol, GrammarSymbol::Letter(_)))
 }
 
 /// The nonterminals among the symbols.
@@ -93,7 +72,9 @@ fn nonterminals(symbols: &[GrammarSymbol]) -> u64
 {
     let mut known = 0;
     for symbol in symbols {
-        known = with_nonterminal(known, *symbol);
+        if let GrammarSymbol::Nonterminal(n) = symbol {
+            known |= only(*n);
+        }
     }
     known
 }
@@ -111,20 +92,4 @@ fn spelling_rule(production: &Production, letters: u32, known: u64) -> Rule
     } else {
         no_rule()
     }
-}
-
-/// The rule of each production.
-fn spelling_rules(
-    alloc: Global,
-    productions: &[Production],
-    letters: u32,
-    known: u64,
-) -> Result<Vec<Rule>, NoMemory>
-    ensures { IfOk result (λ rules. rules.items ≡ map (spelling_rule letters known) productions.now) }
-{
-    let mut rules = Vec::new(alloc);
-    for production in productions {
-        rules.push(spelling_rule(production, letters, known))?;
-    }
-    Ok(rules)
 }

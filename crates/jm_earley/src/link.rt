@@ -1,6 +1,6 @@
 //! What an item says of the nonterminal after its dot.
 ghost use Rattle.std.specs.Prelude.{◌≡◌, drop};
-ghost use Rattle.jm_earley.specs.Links.{link_from, link_of};
+ghost use Rattle.jm_earley.specs.Links.{link_of};
 
 use crate::item::Item;
 use crate::letter_set::LetterSet;
@@ -27,35 +27,17 @@ pub(crate) fn behind(symbols: &[GrammarSymbol], dot: u8) -> &[GrammarSymbol]
     }
 }
 
-fn link_from(left: u8, set: LetterSet, symbols: &[GrammarSymbol]) -> Option<Link>
-    ensures { result ≡ link_from left set symbols.now }
-{
-    match symbols {
-        [GrammarSymbol::Nonterminal(next), back @ ..] => {
-            if set.can_spell(back) {
-                Some(Link {
-                    left,
-                    next: *next,
-                    goes_on: set.can_go_on(back),
-                })
-            } else {
-                None
-            }
-        }
-        _ => None,
-    }
-}
-
 /// The nonterminal after the item's dot.
 pub(crate) fn link_of(productions: &[Production], set: LetterSet, item: Item) -> Option<Link>
     ensures { result ≡ link_of productions.now set item }
 {
-    match productions.get(usize::from(item.production)) {
-        Some(production) => link_from(
-            production.left,
-            set,
-            behind(production.symbols.as_slice(), item.dot),
-        ),
-        None => None,
+    let production = productions.get(usize::from(item.production))?;
+    match behind(production.symbols.as_slice(), item.dot) {
+        [GrammarSymbol::Nonterminal(next), back @ ..] if set.can_spell(back) => Some(Link {
+            left: production.left,
+            next: *next,
+            goes_on: set.can_go_on(back),
+        }),
+        _ => None,
     }
 }

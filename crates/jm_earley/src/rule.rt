@@ -1,7 +1,7 @@
 //! Sets of nonterminals as bits, and rules that add to them until they stay.
 ghost use Rattle.std.specs.Prelude.{ℕ, ◌≡◌, ◌<◌, ◌↔◌, IsBitSet};
 ghost use Rattle.jm_grammar.specs.Rounds.{has_bit};
-ghost use Rattle.jm_earley.specs.Rules.{only, has, no_rule, is_met, with_rule, with_rules, IsGained};
+ghost use Rattle.jm_earley.specs.Rules.{only, has, no_rule, IsGained};
 
 /// The set of one nonterminal, which is below 64.
 pub(crate) fn only(n: u8) -> u64
@@ -45,40 +45,18 @@ pub(crate) fn no_rule() -> Rule
     }
 }
 
-fn is_met(rule: Rule, known: u64) -> bool
-    ensures { result ≡ is_met known rule }
-{
-    rule.always || rule.any & known != 0
-}
-
-fn with_rule(rule: Rule, known: u64) -> u64
-    ensures { result ≡ with_rule known rule }
-{
-    if is_met(rule, known) {
-        known | rule.gives
-    } else {
-        known
-    }
-}
-
-/// The set with what each rule adds, in order.
-fn with_rules(rules: &[Rule], known: u64) -> u64
-    ensures { result ≡ with_rules rules.now known }
-{
-    let mut next = known;
-    for rule in rules {
-        next = with_rule(*rule, next);
-    }
-    next
-}
-
 /// What the rules add in all.
 pub(crate) fn gained(rules: &[Rule]) -> u64
     ensures { (n : ℕ) → IsBitSet result n ↔ IsGained rules.now n }
 {
     let mut known = 0;
     'rounds: loop {
-        let next = with_rules(rules, known);
+        let mut next = known;
+        for rule in rules {
+            if rule.always || rule.any & next != 0 {
+                next |= rule.gives;
+            }
+        }
         if next == known {
             return known;
         }

@@ -1,5 +1,5 @@
 //! The items of a place.
-ghost use Rattle.std.specs.Prelude.{◌≡◌, ◌<◌, ◌^◌, [], Some, IfSome, OnOk, slice_get};
+ghost use Rattle.std.specs.Prelude.{◌≡◌, ◌<◌, ◌^◌, [], IfSome, OnOk, slice_get};
 ghost use Rattle.jm_earley.specs.Growth.{IsWithItem};
 
 use crate::item::Item;
@@ -53,10 +53,6 @@ impl ItemSet {
         ensures value { result ≡ slice_get self.now number }
         ensures small { IfSome result (λ _. number < 2 ^ 63) }
     {
-        if number < self.items.len() {
-            Some(self.items.as_slice()[number])
-        } else {
-            None
-        }
+        self.items.as_slice().get(number).copied()
     }
 }

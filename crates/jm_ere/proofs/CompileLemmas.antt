@@ -1,4 +1,4 @@
-use Rattle.std.proofs.Common.{ℕ, zero, suc, ◌≡◌, ◌<◌, ◌↔◌, Bool, true, false, inl, inr, ◌⊎◌, List, [], ◌∷◌, ◌++◌, Option, Some, None, IsSomeAnd, Result, Ok, All, Contains, map, length, slice_get, refl, sym, ap, subst, ◌∙◌, arith}
+use Rattle.std.proofs.Common.{ℕ, zero, suc, ◌≡◌, ◌<◌, ◌↔◌, Bool, true, false, inl, inr, ◌⊎◌, List, [], ◌∷◌, ◌++◌, Option, Some, None, IsSomeAnd, Result, Ok, All, Contains, map, length, slice_get, refl, sym, ap, subst, ◌∙◌, append-nil, arith}
 use Rattle.std.proofs.lemmas.List.{length-map}
 use Rattle.std.proofs.lemmas.Option.{slice_get_within}
 use Rattle.std.proofs.lemmas.List.Elements.{All-append, All-nil}
@@ -14,10 +14,6 @@ use Rattle.jm_ere.specs.NormalForms.{is_nullable, forms_of}
 use Rattle.jm_ere.specs.Groups.{IsCompiled, HasGroups, IsMatching, LeadsToMatch, AreLive, DeadStaysDead}
 use Rattle.jm_ere.proofs.LanguageLemmas.{Decided, Same, nullable_tells}
 use Rattle.jm_ere.proofs.FormLemmas.{Gives, reached_gives}
-
-append_nothing : (w : List ℕ) → w ++ [] ≡ w
-append_nothing [] = refl
-append_nothing (x ∷ w) = ap (λ u. x ∷ u) (append_nothing w)
 
 decided_true : (b : Bool) (P : Type 0) → Decided b P → (b ≡ true) ↔ P
 decided_true true P h = (λ e. h, λ p. refl)
@@ -37,7 +33,7 @@ module _ (e : Expression) (t : Transitions) (forms : List Expression) (follows :
       let holds = some_holds (slice_get forms (state_after_of t word)) stands.0 stands.2 in
       let tells = decided_true (is_nullable stands.0) (InLanguage stands.0 []) (nullable_tells stands.0) in
       let same = reached_has e stands.0 word (reached_by (forms_of e) word) stands.1 (reached_gives e word) [] in
-      let whole = append_nothing word in (
+      let whole = append-nil word in (
         λ h. subst (InLanguage e) whole (same.0 (tells.0 (holds.0 h))),
         λ h. holds.1 (tells.1 (same.1 (subst (InLanguage e) (sym whole) h))),
       )

@@ -1,4 +1,4 @@
-use Rattle.std.proofs.Common.{ℕ, ◌≡◌, ◌≢◌, ◌↔◌, ◌==◌, ◌&&◌, ◌||◌, not, Bool, true, false, inl, inr, ◌⊎◌, List, [], ◌∷◌, ◌++◌, refl, sym, ap, subst, ◌∙◌, append_assoc, if◌then◌else◌}
+use Rattle.std.proofs.Common.{ℕ, ◌≡◌, ◌≢◌, ◌↔◌, ◌==◌, ◌&&◌, ◌||◌, not, Bool, true, false, inl, inr, ◌⊎◌, List, [], ◌∷◌, ◌++◌, refl, sym, ap, subst, ◌∙◌, append_assoc, append-nil, if◌then◌else◌}
 use Rattle.std.specs.List.{AllByRecursion}
 use Rattle.std.proofs.lemmas.Bool.Decides.{eqb_tells}
 use Rattle.jm_ere.specs.declared.tree.Operator.TheVariants.{Or, And}
@@ -73,15 +73,11 @@ module _ (L : List ℕ → Type 0) where
   chains [] all = chain_empty
   chains (u ∷ words) all = chain_append u (joined words) all.0.1 (chains words all.1)
 
-  append_nothing : (w : List ℕ) → w ++ [] ≡ w
-  append_nothing [] = refl
-  append_nothing (x ∷ w) = ap (λ u. x ∷ u) (append_nothing w)
-
   one_chain : (w : List ℕ) → IsChain L w → IsChain (IsChain L) w
   one_chain [] h = ([], tt, refl)
   one_chain (x ∷ w) h =
       let more : (x ∷ w) ≢ [] = λ (e : ◌≡◌ {A = List ℕ} (x ∷ w) []). cc in
-      ((x ∷ w) ∷ [], ((more, h), tt), sym (append_nothing (x ∷ w)))
+      ((x ∷ w) ∷ [], ((more, h), tt), sym (append-nil (x ∷ w)))
 
   pub chain_of_chains : (w : List ℕ) → IsChain (IsChain L) w ↔ IsChain L w
   chain_of_chains w = (λ h. subst (IsChain L) (sym h.2) (chains h.0 h.1), one_chain w)

@@ -14,3 +14,4 @@ pub mod CompileLemmas
 pub mod RefusalLemmas
 pub mod StackLemmas
 pub mod NotLemmas
+pub mod AnswerLemmas

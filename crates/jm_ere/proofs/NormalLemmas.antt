@@ -1,4 +1,4 @@
-use Rattle.std.proofs.Common.{ℕ, ◌≡◌, ◌≢◌, ◌||◌, Bool, true, false, inl, inr, ◌⊎◌, List, [], ◌∷◌, ◌++◌, refl, sym, ap, subst, ◌∙◌, append_assoc, if◌then◌else◌}
+use Rattle.std.proofs.Common.{ℕ, ◌≡◌, ◌≢◌, ◌||◌, Bool, true, false, inl, inr, ◌⊎◌, List, [], ◌∷◌, ◌++◌, refl, sym, ap, subst, ◌∙◌, append_assoc, append-nil, if◌then◌else◌}
 use Rattle.std.specs.List.{AllByRecursion}
 use Rattle.std.specs.declared.cmp.Ordering.{Ordering}
 use Rattle.std.specs.declared.cmp.Ordering.TheVariants.{Less, Equal, Greater}
@@ -50,16 +50,12 @@ before_keeps (Product p q) s w = (
 )
 before_keeps r s w = (λ h. h, λ h. h)
 
-append_nothing : (w : List ℕ) → w ++ [] ≡ w
-append_nothing [] = refl
-append_nothing (x ∷ w) = ap (λ u. x ∷ u) (append_nothing w)
-
 -- `epsilon` is dropped, and with `empty` in it the whole is `empty`
 pub product_keeps : (r s : Expression) → Same (InLanguage (product_of r s)) (InLanguage (Product r s))
 product_keeps r NoWord w = (λ h. absurd h, λ h. absurd h.4)
 product_keeps r EmptyWord w = (
-  λ h. (w, [], sym (append_nothing w), h, refl),
-  λ h. subst (InLanguage r) (sym (h.2 ∙ ap (λ b. h.0 ++ b) h.4 ∙ append_nothing h.0)) h.3,
+  λ h. (w, [], sym (append-nil w), h, refl),
+  λ h. subst (InLanguage r) (sym (h.2 ∙ ap (λ b. h.0 ++ b) h.4 ∙ append-nil h.0)) h.3,
 )
 product_keeps r s w = before_keeps r s w
 

@@ -21,8 +21,7 @@ use Rattle.jm_ere.specs.Formulas.{Formula, Leaf, Over, Between, node_count}
 use Rattle.jm_ere.specs.Spelling.{Spells}
 use Rattle.jm_ere.specs.Rules.{postfix, IsWritten, parsed}
 use Rattle.jm_ere.specs.Readings.{IsReadFrom, IsRefused}
-use Rattle.jm_ere.specs.Faults.{nodes_fault, is_grammar_word, atom_said, over, between, expression_said, first_fault}
-use Rattle.jm_ere.specs.Values.{with_node, stack_of, Leave, fault_of_nodes}
+use Rattle.jm_ere.specs.Faults.{nodes_fault, is_grammar_word, atom_said, over, between, expression_said, first_fault, with_node, stack_of, Leave, fault_of_nodes}
 use Rattle.jm_ere.proofs.CompleteLemmas.{spelled_is_parsed}
 use Rattle.jm_ere.proofs.SoundLemmas.{parsed_is_spelled}
 use Rattle.jm_ere.proofs.FormulaLemmas.{nodes_counted, one_formula}

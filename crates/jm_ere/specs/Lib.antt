@@ -3,7 +3,6 @@ pub mod Meanings
 pub mod Suffixes
 pub mod NormalForms
 pub mod Normality
-pub mod Keys
 pub mod Groups
 pub mod Categories
 pub mod Refusals
@@ -13,5 +12,4 @@ pub mod Formulas
 pub mod Spelling
 pub mod Rules
 pub mod Readings
-pub mod Values
 pub mod Faults

@@ -1,6 +1,6 @@
 -- The normal forms of regular expressions, by which derivatives are told apart and counted. They stand here for the two
 -- limits alone: what an expression means is told in `Languages`.
-use Rattle.std.specs.Prelude.{ℕ, ◌+◌, ◌==◌, nat_le, Bool, true, false, ◌&&◌, ◌||◌, not, Result, Ok, Err, if◌then◌else◌}
+use Rattle.std.specs.Prelude.{ℕ, ◌+◌, ◌*◌, ◌%◌, ◌==◌, nat_le, Bool, true, false, ◌&&◌, ◌||◌, not, Result, Ok, Err, if◌then◌else◌}
 use Rattle.std.specs.Ordering.{nat_cmp, ordering_then}
 use Rattle.std.specs.declared.cmp.Ordering.{Ordering}
 use Rattle.std.specs.declared.cmp.Ordering.TheVariants.{Less, Equal, Greater}
@@ -10,8 +10,6 @@ use Rattle.jm_model.specs.declared.fault.SpecFault.TheVariants.{TooMany}
 use Rattle.jm_table.specs.Graphs.{GraphMeaning}
 use Rattle.jm_ere.specs.declared.tree.Operator.{Operator}
 use Rattle.jm_ere.specs.declared.tree.Operator.TheVariants.{Or, And}
-use Rattle.jm_ere.specs.declared.sizes.Standing.{Standing}
-use Rattle.jm_ere.specs.declared.sizes.Standing.TheVariants.{Inside, Apart}
 use Rattle.jm_ere.specs.Expressions.{Expression, Symbol, EmptyWord, NoWord, Complement, Star, Plus, Product, Combination}
 
 -- ---- one fixed order
@@ -155,11 +153,6 @@ abbrev pub ◌>>=◌ : Formed → (Expression → Formed) → Formed
 Ok r >>= f = f r
 Err fault >>= f = Err fault
 
--- the part stands inside a run that is made at once
-abbrev pub is_inside : Standing → Bool
-is_inside Inside = true
-is_inside Apart = false
-
 -- What is made of a part is a part itself and has to fit, unless the part is inside a run that is made at once.
 abbrev pub part : Bool → Formed → Formed
 part inside formed = formed >>= λ r. if inside then Ok r else fitting r
@@ -215,3 +208,20 @@ derivative x r = part false (derivative_run x r)
 -- What is found: the normal form of the expression, and all derivatives.
 abbrev pub forms_of : Expression → GraphMeaning Expression
 forms_of e = record { start = normal_form e; step = λ r letter. derivative letter r }
+
+-- ---- the key of a form, by which known ones are looked up
+
+-- of the keys of two parts, and a number of the kind
+abbrev pub mixed : ℕ → ℕ → ℕ → ℕ
+mixed kind first second = (first * 16777619 + second * 40503 + kind) % 4294967291
+
+abbrev pub key_of : Expression → ℕ
+key_of (Symbol x) = mixed 8 x 0
+key_of EmptyWord = 1
+key_of NoWord = 2
+key_of (Complement r) = mixed 3 (key_of r) 0
+key_of (Star r) = mixed 4 (key_of r) 0
+key_of (Plus r) = mixed 5 (key_of r) 0
+key_of (Product r s) = mixed 6 (key_of r) (key_of s)
+key_of (Combination Or r s) = mixed 7 (key_of r) (key_of s)
+key_of (Combination And r s) = mixed 9 (key_of r) (key_of s)

@@ -1,11 +1,9 @@
 -- How a reader goes over the tokens of a formula: what a token means, and what was read so far after it. The nodes of
 -- the formula are written with each operator after its operands.
-use Rattle.std.specs.Prelude.{ℕ, zero, suc, ◌≡◌, Bool, true, false, List, [], ◌∷◌, ◌++◌, Option, Some, None, Result, Ok, Err, option_and_then, codes, if◌then◌else◌}
+use Rattle.std.specs.Prelude.{ℕ, zero, suc, ◌≡◌, Bool, true, false, List, [], ◌∷◌, ◌++◌, Option, Some, None, option_and_then, codes, if◌then◌else◌}
 use Rattle.jm_model.specs.Words.{Text}
-use Rattle.jm_model.specs.declared.fault.SpecError.{SpecError}
 use Rattle.jm_text.specs.declared.token.Token.{Token}
 use Rattle.jm_text.specs.Texts.{is_name, is_word, is_mark}
-use Rattle.jm_reading.specs.Answers.{FailsAt}
 use Rattle.jm_ere.specs.declared.formula.Atom.TheVariants.{Name, Epsilon, Empty}
 use Rattle.jm_ere.specs.declared.formula.Unary.TheVariants.{Not, Any, Many}
 use Rattle.jm_ere.specs.declared.formula.Binary.{Binary}
@@ -58,11 +56,8 @@ abbrev pub complements : ℕ → List Node
 complements zero = []
 complements (suc n) = complements n ++ Wrap Not ∷ []
 
-abbrev pub end_not : Pending → List Node
-end_not f = complements f.nots
-
 abbrev pub end_sequence : Pending → List Node
-end_sequence f = end_not f ++ flag f.has_then Then
+end_sequence f = complements f.nots ++ flag f.has_then Then
 
 abbrev pub end_both : Pending → List Node
 end_both f = end_sequence f ++ flag f.has_both Both
@@ -112,11 +107,6 @@ behind_operand p sign = before_operand (juxtaposed p) sign
 -- after a token; nothing, where it can't go on so
 abbrev pub after_lexeme : Parser → Lexeme → Option Parser
 after_lexeme p sign = if p.pending.ready then behind_operand p sign else before_operand p sign
-
--- a call takes tokens, after which a reader is so far, or fails where they can't stand
-abbrev pub Takes : {X : Type 0} → Result X SpecError → Parser → Option Parser → Type 0
-Takes (Ok x) new after = after ≡ Some new
-Takes (Err e) new after = FailsAt e after
 
 -- after all tokens
 abbrev pub after_all : Text → Parser → List Token → Option Parser

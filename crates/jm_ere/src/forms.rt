@@ -1,21 +1,15 @@
-//! The operators over normal forms.
-ghost use Rattle.std.specs.Prelude.{◌≡◌, ◌<◌, ◌^◌, IfOk, IfErr};
+//! The operators over normal forms. A part of a form is there or is too large: the first fault is the whole's.
+ghost use Rattle.std.specs.Prelude.{◌≡◌, Ok, IfOk, IfErr};
+ghost use Rattle.jm_table.specs.Graphs.{Answers};
 ghost use Rattle.jm_ere.specs.Trees.{expression_of};
-ghost use Rattle.jm_ere.specs.Expressions.{Symbol, EmptyWord, NoWord, Complement, Star, Plus, Product, Combination};
-ghost use Rattle.jm_ere.specs.NormalForms.{complement_of, star_of, before, product_of, put, join, combined};
+ghost use Rattle.jm_ere.specs.Expressions.{Combination};
+ghost use Rattle.jm_ere.specs.NormalForms.{Formed, ◌>>=◌ as ◌>>>◌, complement_of, star_of, before, product_of, put, join, combined};
 
 use crate::order::{is_epsilon, is_nothing, is_unit, is_zero, order};
 use crate::tree::{Operator, Tree};
 use jm_model::SpecError;
 use std::alloc::Global;
 use std::cmp::Ordering;
-
-pub(crate) fn boxed(alloc: Global, tree: Tree) -> Result<Box<Tree>, SpecError>
-    ensures ok { IfOk result (λ b. expression_of b.value ≡ expression_of tree) }
-    ensures err { IfErr result (λ e. e ≡ SpecError.NoMemory) }
-{
-    Ok(Box::new(alloc, tree)?)
-}
 
 /// A copy of an expression.
 pub(crate) fn copy(alloc: Global, tree: &Tree) -> Result<Tree, SpecError>
@@ -26,29 +20,16 @@ pub(crate) fn copy(alloc: Global, tree: &Tree) -> Result<Tree, SpecError>
         Tree::Letter(letter) => Ok(Tree::Letter(*letter)),
         Tree::Epsilon => Ok(Tree::Epsilon),
         Tree::Empty => Ok(Tree::Empty),
-        Tree::Not(r) => Ok(Tree::Not(boxed(alloc, copy(alloc, r)?)?)),
-        Tree::Star(r) => Ok(Tree::Star(boxed(alloc, copy(alloc, r)?)?)),
-        Tree::Plus(r) => Ok(Tree::Plus(boxed(alloc, copy(alloc, r)?)?)),
-        Tree::Then(r, s) => then(alloc, copy(alloc, r)?, copy(alloc, s)?),
+        Tree::Not(r) => Ok(Tree::Not(Box::new(alloc, copy(alloc, r)?)?)),
+        Tree::Star(r) => Ok(Tree::Star(Box::new(alloc, copy(alloc, r)?)?)),
+        Tree::Plus(r) => Ok(Tree::Plus(Box::new(alloc, copy(alloc, r)?)?)),
+        Tree::Then(r, s) => {
+            let r = copy(alloc, r)?;
+            let s = copy(alloc, s)?;
+            Ok(Tree::Then(Box::new(alloc, r)?, Box::new(alloc, s)?))
+        }
         Tree::Combined(operator, r, s) => pair(alloc, *operator, copy(alloc, r)?, copy(alloc, s)?),
     }
-}
-
-/// `r*` of a normal form `r`.
-pub(crate) fn repeated(alloc: Global, r: &Tree) -> Result<Tree, SpecError>
-    ensures ok { IfOk result (λ t. expression_of t ≡ Star (expression_of r.now)) }
-    ensures err { IfErr result (λ e. e ≡ SpecError.NoMemory) }
-{
-    Ok(Tree::Star(boxed(alloc, copy(alloc, r)?)?))
-}
-
-fn then(alloc: Global, r: Tree, s: Tree) -> Result<Tree, SpecError>
-    ensures ok { IfOk result (λ t. expression_of t ≡ Product (expression_of r) (expression_of s)) }
-    ensures err { IfErr result (λ e. e ≡ SpecError.NoMemory) }
-{
-    let r = boxed(alloc, r)?;
-    let s = boxed(alloc, s)?;
-    Ok(Tree::Then(r, s))
 }
 
 /// `r | s`, or `r & s`.
@@ -56,32 +37,31 @@ fn pair(alloc: Global, operator: Operator, r: Tree, s: Tree) -> Result<Tree, Spe
     ensures ok { IfOk result (λ t. expression_of t ≡ Combination operator (expression_of r) (expression_of s)) }
     ensures err { IfErr result (λ e. e ≡ SpecError.NoMemory) }
 {
-    let r = boxed(alloc, r)?;
-    let s = boxed(alloc, s)?;
-    Ok(Tree::Combined(operator, r, s))
+    Ok(Tree::Combined(operator, Box::new(alloc, r)?, Box::new(alloc, s)?))
 }
 
 /// `~r`, where `~~r` is `r`.
-pub(crate) fn complement_of(alloc: Global, r: Tree) -> Result<Tree, SpecError>
-    ensures ok { IfOk result (λ t. expression_of t ≡ complement_of (expression_of r)) }
-    ensures err { IfErr result (λ e. e ≡ SpecError.NoMemory) }
+pub(crate) fn complement_of(
+    alloc: Global,
+    inner: Result<Tree, SpecError>,
+) -> Result<Tree, SpecError>
+    ensures { (n : Formed) → Answers expression_of n inner
+        → Answers expression_of (n >>> λ n. Ok (complement_of n)) result }
 {
-    match r {
+    match inner? {
         Tree::Not(r) => Ok(Box::into_inner(r)),
-        r => Ok(Tree::Not(boxed(alloc, r)?)),
+        r => Ok(Tree::Not(Box::new(alloc, r)?)),
     }
 }
 
 /// `r*`, where `empty*` and `epsilon*` are `epsilon`, and `r**` is `r*`.
-pub(crate) fn star_of(alloc: Global, r: Tree) -> Result<Tree, SpecError>
-    ensures ok { IfOk result (λ t. expression_of t ≡ star_of (expression_of r)) }
-    ensures err { IfErr result (λ e. e ≡ SpecError.NoMemory) }
+pub(crate) fn star_of(alloc: Global, inner: Result<Tree, SpecError>) -> Result<Tree, SpecError>
+    ensures { (n : Formed) → Answers expression_of n inner → Answers expression_of (n >>> λ n. Ok (star_of n)) result }
 {
-    match r {
-        Tree::Empty => Ok(Tree::Epsilon),
-        Tree::Epsilon => Ok(Tree::Epsilon),
+    match inner? {
+        Tree::Empty | Tree::Epsilon => Ok(Tree::Epsilon),
         Tree::Star(r) => Ok(Tree::Star(r)),
-        r => Ok(Tree::Star(boxed(alloc, r)?)),
+        r => Ok(Tree::Star(Box::new(alloc, r)?)),
     }
 }
 
@@ -95,18 +75,23 @@ fn before(alloc: Global, r: Tree, s: Tree) -> Result<Tree, SpecError>
         Tree::Epsilon => Ok(s),
         Tree::Then(p, q) => {
             let rest = before(alloc, Box::into_inner(q), s)?;
-            let rest = boxed(alloc, rest)?;
-            Ok(Tree::Then(p, rest))
+            Ok(Tree::Then(p, Box::new(alloc, rest)?))
         }
-        r => then(alloc, r, s),
+        r => Ok(Tree::Then(Box::new(alloc, r)?, Box::new(alloc, s)?)),
     }
 }
 
 /// `r s`, nested to the right, without `epsilon`; with `empty` in it the whole is `empty`.
-pub(crate) fn product_of(alloc: Global, r: Tree, s: Tree) -> Result<Tree, SpecError>
-    ensures ok { IfOk result (λ t. expression_of t ≡ product_of (expression_of r) (expression_of s)) }
-    ensures err { IfErr result (λ e. e ≡ SpecError.NoMemory) }
+pub(crate) fn product_of(
+    alloc: Global,
+    first: Result<Tree, SpecError>,
+    rest: Result<Tree, SpecError>,
+) -> Result<Tree, SpecError>
+    ensures { (n m : Formed) → Answers expression_of n first → Answers expression_of m rest →
+        Answers expression_of (n >>> λ n. m >>> λ m. Ok (product_of n m)) result }
 {
+    let r = first?;
+    let s = rest?;
     if is_nothing(&s) {
         return Ok(Tree::Empty);
     }
@@ -128,8 +113,7 @@ fn put(alloc: Global, operator: Operator, t: Tree, run: Tree) -> Result<Tree, Sp
             Ordering::Equal => Ok(Tree::Combined(operator, r, s)),
             Ordering::Greater => {
                 let rest = put(alloc, operator, t, Box::into_inner(s))?;
-                let rest = boxed(alloc, rest)?;
-                Ok(Tree::Combined(operator, r, rest))
+                Ok(Tree::Combined(operator, r, Box::new(alloc, rest)?))
             }
         },
         (_, r) => match order(&t, &r) {
@@ -156,12 +140,7 @@ fn join(alloc: Global, operator: Operator, t: Tree, run: Tree) -> Result<Tree, S
 }
 
 /// `r | s`, or `r & s`: the members of the first, which may be a run, are put among those of the second.
-pub(crate) fn combined(
-    alloc: Global,
-    operator: Operator,
-    r: Tree,
-    run: Tree,
-) -> Result<Tree, SpecError>
+fn combined(alloc: Global, operator: Operator, r: Tree, run: Tree) -> Result<Tree, SpecError>
     ensures ok { IfOk result (λ u. expression_of u ≡ combined operator (expression_of r) (expression_of run)) }
     ensures err { IfErr result (λ e. e ≡ SpecError.NoMemory) }
 {
@@ -173,4 +152,19 @@ pub(crate) fn combined(
         }
         (_, r) => join(alloc, operator, r, run),
     }
+}
+
+/// `r | s`, or `r & s`, of parts.
+pub(crate) fn combined_parts(
+    alloc: Global,
+    operator: Operator,
+    first: Result<Tree, SpecError>,
+    rest: Result<Tree, SpecError>,
+) -> Result<Tree, SpecError>
+    ensures { (n m : Formed) → Answers expression_of n first → Answers expression_of m rest →
+        Answers expression_of (n >>> λ n. m >>> λ m. Ok (combined operator n m)) result }
+{
+    let first = first?;
+    let rest = rest?;
+    combined(alloc, operator, first, rest)
 }

@@ -6,25 +6,17 @@
 //! from any derivative: its words, by cases on the expression.
 #![tactic(auto)]
 
-mod check;
 mod compile;
 mod derivative;
 mod forms;
 mod formula;
 mod graph;
-mod keys;
 mod laws;
-mod live;
 mod order;
 mod parse;
-mod parts;
 mod reads;
-mod resolve;
-mod sizes;
 mod stack;
-mod suffix;
 mod tree;
-mod written;
 
 pub use laws::{forms_are_normal, one_order, one_reading};
 pub use reads::read;

@@ -57,21 +57,14 @@ pub(crate) fn order(a: &Tree, b: &Tree) -> Ordering
 pub(crate) fn is_same(a: &Tree, b: &Tree) -> bool
     ensures { IsTrue result ↔ (expression_of a.now ≡ expression_of b.now) }
 {
-    match order(a, b) {
-        Ordering::Less => false,
-        Ordering::Equal => true,
-        Ordering::Greater => false,
-    }
+    order(a, b).is_eq()
 }
 
 /// Whether it is `empty`.
 pub(crate) fn is_nothing(tree: &Tree) -> bool
     ensures { result ≡ is_nothing (expression_of tree.now) }
 {
-    match tree {
-        Tree::Empty => true,
-        _ => false,
-    }
+    matches!(tree, Tree::Empty)
 }
 
 /// Whether it is `~empty`.
@@ -87,19 +80,13 @@ fn is_everything(tree: &Tree) -> bool
 pub(crate) fn is_epsilon(tree: &Tree) -> bool
     ensures { result ≡ is_epsilon (expression_of tree.now) }
 {
-    match tree {
-        Tree::Epsilon => true,
-        _ => false,
-    }
+    matches!(tree, Tree::Epsilon)
 }
 
 pub(crate) fn is_product(tree: &Tree) -> bool
     ensures { result ≡ is_product (expression_of tree.now) }
 {
-    match tree {
-        Tree::Then(_, _) => true,
-        _ => false,
-    }
+    matches!(tree, Tree::Then(_, _))
 }
 
 /// Whether it is made by the operator.
@@ -138,11 +125,9 @@ pub(crate) fn is_nullable(tree: &Tree) -> bool
     ensures { result ≡ is_nullable (expression_of tree.now) }
 {
     match tree {
-        Tree::Letter(_) => false,
-        Tree::Epsilon => true,
-        Tree::Empty => false,
+        Tree::Letter(_) | Tree::Empty => false,
+        Tree::Epsilon | Tree::Star(_) => true,
         Tree::Not(r) => !is_nullable(r),
-        Tree::Star(_) => true,
         Tree::Plus(r) => is_nullable(r),
         Tree::Then(r, s) => is_nullable(r) && is_nullable(s),
         Tree::Combined(Operator::Or, r, s) => is_nullable(r) || is_nullable(s),

@@ -1,8 +1,8 @@
 //! The reader of a formula. It goes over the tokens once, and writes operands before their operators.
-ghost use Rattle.std.specs.Prelude.{◌≡◌, ◌<◌, ◌-◌, ◌^◌, [], ◌++◌, OnOk, IfOk, IfErr, MatchBool, None, Some};
+ghost use Rattle.std.specs.Prelude.{◌≡◌, ◌<◌, ◌-◌, ◌^◌, [], OnOk, IfOk, IfErr, MatchBool, None, Some};
 ghost use Rattle.jm_text.specs.Spans.{LiesWithin, LieWithin};
 ghost use Rattle.jm_reading.specs.Answers.{Gives, IsSyntax};
-ghost use Rattle.jm_ere.specs.Rules.{lexeme_of, fresh, beginning, flag, complements, end_not, end_sequence, end_both, end_either, with_nodes, juxtaposed, closed, before_operand, behind_operand, after_lexeme, after_all, finished, parsed, Takes};
+ghost use Rattle.jm_ere.specs.Rules.{lexeme_of, fresh, flag, end_sequence, end_both, end_either, with_nodes, juxtaposed, closed, before_operand, behind_operand, after_lexeme, parsed};
 
 use crate::formula::{Atom, Binary, Node, Unary};
 use crate::stack::Stack;
@@ -94,17 +94,6 @@ pub struct Parser {
 }
 
 impl Parser {
-    /// Nothing was read.
-    fn new(alloc: Global) -> Parser
-        ensures { result ≡ beginning }
-    {
-        Parser {
-            nodes: Items::new(alloc),
-            pending: Pending::new(),
-            outer: Stack::new(alloc),
-        }
-    }
-
     fn push_if(&mut self, has: bool, operator: Binary) -> Result<(), SpecError>
         ensures ok { OnOk result (self.new ≡ with_nodes self.old (flag has operator)) }
         ensures err { IfErr result (λ e. e ≡ SpecError.NoMemory) }
@@ -115,18 +104,13 @@ impl Parser {
         Ok(())
     }
 
-    fn end_not(&mut self) -> Result<(), SpecError>
-        ensures ok { OnOk result (self.new ≡ with_nodes self.old (end_not self.old.pending)) }
-        ensures err { IfErr result (λ e. e ≡ SpecError.NoMemory) }
-    {
-        push_nots(&mut self.nodes, self.pending.nots)
-    }
-
     fn end_sequence(&mut self) -> Result<(), SpecError>
         ensures ok { OnOk result (self.new ≡ with_nodes self.old (end_sequence self.old.pending)) }
         ensures err { IfErr result (λ e. e ≡ SpecError.NoMemory) }
     {
-        self.end_not()?;
+        for _ in 0..self.pending.nots {
+            self.nodes.push(Node::Wrap(Unary::Not))?;
+        }
         self.push_if(self.pending.has_then, Binary::Then)
     }
 
@@ -153,33 +137,6 @@ impl Parser {
     {
         self.end_sequence()?;
         self.pending.has_then = true;
-        self.pending.nots = 0;
-        self.pending.ready = false;
-        Ok(())
-    }
-
-    /// A `&` stands after the last operand.
-    fn intersect(&mut self) -> Result<(), SpecError>
-        ensures ok { OnOk result (behind_operand self.old Lexeme.Ampersand ≡ Some self.new) }
-        ensures err { IfErr result (λ e. e ≡ SpecError.NoMemory) }
-    {
-        self.end_both()?;
-        self.pending.has_both = true;
-        self.pending.has_then = false;
-        self.pending.nots = 0;
-        self.pending.ready = false;
-        Ok(())
-    }
-
-    /// A `|` stands after the last operand.
-    fn unite(&mut self) -> Result<(), SpecError>
-        ensures ok { OnOk result (behind_operand self.old Lexeme.Bar ≡ Some self.new) }
-        ensures err { IfErr result (λ e. e ≡ SpecError.NoMemory) }
-    {
-        self.end_either()?;
-        self.pending.has_either = true;
-        self.pending.has_both = false;
-        self.pending.has_then = false;
         self.pending.nots = 0;
         self.pending.ready = false;
         Ok(())
@@ -242,11 +199,17 @@ impl Parser {
                 Ok(true)
             }
             Lexeme::Ampersand => {
-                self.intersect()?;
+                self.end_both()?;
+                self.pending.has_both = true;
+                self.pending.has_then = false;
+                self.pending.nots = 0;
+                self.pending.ready = false;
                 Ok(true)
             }
             Lexeme::Bar => {
-                self.unite()?;
+                self.end_either()?;
+                self.pending = Pending::new();
+                self.pending.has_either = true;
                 Ok(true)
             }
             Lexeme::Closing => self.close(),
@@ -271,72 +234,12 @@ impl Parser {
             self.before_operand(sign)
         }
     }
-
-    /// A token, which has to be able to stand here.
-    fn take(&mut self, bytes: &[u8], token: Token) -> Result<(), SpecError>
-        requires token { LiesWithin bytes.now token }
-        requires nots { self.old.pending.nots < 2 ^ 64 - 1 }
-        ensures { Takes result self.new (after_lexeme self.old (lexeme_of bytes.now token)) }
-    {
-        if self.follow(lexeme_of(bytes, token))? {
-            Ok(())
-        } else {
-            Err(syntax(token.line))
-        }
-    }
-
-    /// All nodes, if the formula may end. Its last token is on the line.
-    fn finish(self, line: u32) -> Result<Items<Node>, SpecError>
-        ensures { Gives result (finished self.outer self.pending.ready self) }
-    {
-        let mut parser = self;
-        if !parser.pending.ready {
-            return Err(syntax(line));
-        }
-        match parser.outer.pop() {
-            Some(_) => Err(syntax(line)),
-            None => parser.all_nodes(),
-        }
-    }
-
-    fn all_nodes(self) -> Result<Items<Node>, SpecError>
-        ensures ok { IfOk result (λ nodes. nodes ≡ self.nodes ++ end_either self.pending) }
-        ensures err { IfErr result (λ e. e ≡ SpecError.NoMemory) }
-    {
-        let mut parser = self;
-        parser.end_either()?;
-        let Parser { nodes, .. } = parser;
-        Ok(nodes)
-    }
 }
 
 fn syntax(line: u32) -> SpecError
     ensures { IsSyntax result }
 {
     SpecFault::Syntax { line }.into()
-}
-
-/// Writes `~` the given number of times.
-fn push_nots(nodes: &mut Items<Node>, count: usize) -> Result<(), SpecError>
-    ensures ok { OnOk result (nodes.new ≡ nodes.old ++ complements count) }
-    ensures err { IfErr result (λ e. e ≡ SpecError.NoMemory) }
-{
-    for _ in 0..count {
-        nodes.push(Node::Wrap(Unary::Not))?;
-    }
-    Ok(())
-}
-
-/// The tokens one after the other, each of which has to be able to stand where it does.
-fn take_all(parser: &mut Parser, bytes: &[u8], tokens: &[Token]) -> Result<(), SpecError>
-    requires tokens { LieWithin bytes.now tokens.now }
-    requires begins { parser.old ≡ beginning }
-    ensures { Takes result parser.new (after_all bytes.now parser.old tokens.now) }
-{
-    for token in tokens {
-        parser.take(bytes, *token)?;
-    }
-    Ok(())
 }
 
 /// The nodes of the formula that the tokens spell, operands first. The token before them is on the line.
@@ -354,7 +257,23 @@ pub(crate) fn parse(
         [.., token] => token.line,
         [] => line,
     };
-    let mut parser = Parser::new(alloc);
-    take_all(&mut parser, bytes, tokens)?;
-    parser.finish(last_line)
+    let mut parser = Parser {
+        nodes: Items::new(alloc),
+        pending: Pending::new(),
+        outer: Stack::new(alloc),
+    };
+    for token in tokens {
+        if !parser.follow(lexeme_of(bytes, *token))? {
+            return Err(syntax(token.line));
+        }
+    }
+    if !parser.pending.ready {
+        return Err(syntax(last_line));
+    }
+    if let Some(_) = parser.outer.pop() {
+        return Err(syntax(last_line));
+    }
+    parser.end_either()?;
+    let Parser { nodes, .. } = parser;
+    Ok(nodes)
 }

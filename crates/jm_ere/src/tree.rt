@@ -1,9 +1,12 @@
-//! A regular expression as a tree.
-
-ghost use Rattle.std.specs.Prelude.{◌≡◌};
+//! A regular expression as a tree, and what becomes of it where a rule may begin anywhere.
+ghost use Rattle.std.specs.Prelude.{ℕ, ◌≡◌, ◌↔◌, List, IfOk};
+ghost use Rattle.jm_ere.specs.Meanings.{InLanguage};
+ghost use Rattle.jm_ere.specs.Suffixes.{EndsIn, suffixed};
 ghost use Rattle.jm_ere.specs.Trees.{expression_of};
 
-use jm_model::Letter;
+use crate::forms::copy;
+use jm_model::{Letter, NoMemory};
+use std::alloc::Global;
 use std::marker::Model;
 
 /// `|` and `&`.
@@ -58,5 +61,30 @@ impl Ere {
         ensures { result ≡ expression_of tree }
     {
         Ere { tree }
+    }
+    /// An equal expression.
+    pub fn copy(&self, alloc: Global) -> Result<Ere, NoMemory>
+        ensures { IfOk result (λ e. e ≡ self.now) }
+    {
+        match copy(alloc, &self.tree) {
+            Ok(tree) => Ok(Ere::new(tree)),
+            Err(_) => Err(NoMemory),
+        }
+    }
+
+    /// `~empty (r & ~epsilon)`, where this expression is r: the words that end in a word of this expression that has
+    /// one letter or more.
+    pub fn suffixed(self, alloc: Global) -> Result<Ere, NoMemory>
+        ensures formula { IfOk result (λ e. e ≡ suffixed self) }
+        ensures words { IfOk result (λ e. (word : List ℕ) → InLanguage e word ↔ EndsIn (InLanguage self) word) }
+    {
+        let front = Tree::Not(Box::new(alloc, Tree::Empty)?);
+        let some = Tree::Not(Box::new(alloc, Tree::Epsilon)?);
+        let back = Tree::Combined(
+            Operator::And,
+            Box::new(alloc, self.tree)?,
+            Box::new(alloc, some)?,
+        );
+        Ok(Ere::new(Tree::Then(Box::new(alloc, front)?, Box::new(alloc, back)?)))
     }
 }

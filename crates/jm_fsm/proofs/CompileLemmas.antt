@@ -2,11 +2,11 @@ use Rattle.std.proofs.Common.{ℕ, ◌≡◌, ◌<◌, ◌+◌, ◌↔◌, inl, 
 use Rattle.std.proofs.lemmas.Bool.{cases_lt}
 use Rattle.jm_model.specs.declared.fault.SpecFault.{SpecFault}
 use Rattle.jm_table.specs.Graphs.{GraphMeaning, step_from, reached_by}
-use Rattle.jm_table.specs.Tables.{Transitions, IsWord, state_after_of, Follows}
+use Rattle.jm_table.specs.Tables.{Transitions, IsInGroup, IsWord, state_after_of, Follows}
 use Rattle.jm_fsm.specs.declared.machine.Destination.{Destination}
 use Rattle.jm_fsm.specs.declared.machine.Destination.TheVariants.{State}
 use Rattle.jm_fsm.specs.Machines.{StateMachine}
-use Rattle.jm_fsm.specs.Tables.{HasGroups, HasStates, IsCompiled}
+use Rattle.jm_fsm.specs.Tables.{HasStates, IsCompiled}
 use Rattle.jm_fsm.specs.Categories.{IsMember, category_count}
 use Rattle.jm_fsm.specs.Meanings.{next_destination, fsm_state_after}
 
@@ -21,6 +21,17 @@ path_is m destination (letter ∷ word) = path_is m (next_destination m destinat
 -- the graph reaches by a word where the path of the word ends
 pub reached_is : (m : StateMachine) (word : List ℕ) → reached_by (graph_of m) word ≡ Ok (fsm_state_after m word)
 reached_is m word = path_is m (State 0) word
+
+-- The table after has that many groups more than the table before, which had none: the states of the group of a
+-- category are the places of the list at which its members stand.
+pub record HasGroups (m : StateMachine) (nodes : List Destination) (count : ℕ)
+    (before after : Transitions) : Type 0 where
+  pub states : after.states ≡ before.states
+  pub letters : after.letters ≡ before.letters
+  pub next : after.next ≡ before.next
+  pub many : length after.groups ≡ count
+  pub each : (category : ℕ) → category < count → (state : ℕ)
+      → IsInGroup after state category ↔ IsSomeAnd (slice_get nodes state) (IsMember m category)
 
 get-append : {X : Type 0} (xs ys : List X) (k : ℕ) → k < length xs → slice_get (xs ++ ys) k ≡ slice_get xs k
 get-append [] ys k lt = absurd (omega arith)

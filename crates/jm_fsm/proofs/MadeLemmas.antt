@@ -3,14 +3,16 @@ use Rattle.std.proofs.Common.{ℕ, suc, ◌≡◌, ◌+◌, ◌<◌, ◌≤◌, 
 use Rattle.std.specs.Prelude.{codes, count_by}
 use Rattle.std.specs.List.{list_any}
 use Rattle.std.specs.Str.{bytes_eq}
+use Rattle.std.specs.Option.{is_some}
 use Rattle.std.proofs.lemmas.Bool.{ltb-false}
-use Rattle.std.proofs.lemmas.List.{length-map, map-append}
+use Rattle.std.proofs.lemmas.List.{length-map, map-append, drop_more}
 use Rattle.std.proofs.lemmas.List.Sums.{sum_by-append}
 use Rattle.std.proofs.lemmas.List.Elements.{All-push}
 use Rattle.std.proofs.lemmas.List.Quantifiers.{position-Some}
 use Rattle.std.proofs.lemmas.Slice.Eq.{bytes_eq-Decides}
 use Rattle.jm_text.specs.declared.token.Token.{Token}
 use Rattle.jm_events.specs.Names.{number_of, with_name}
+use Rattle.jm_events.proofs.NameLemmas.{list_any-number_of}
 use Rattle.jm_fsm.specs.declared.machine.Destination.{Destination}
 use Rattle.jm_fsm.specs.declared.machine.Destination.TheVariants.{State, Fail}
 use Rattle.jm_fsm.specs.declared.machine.Transition.{Transition}
@@ -55,6 +57,10 @@ none_among name (x ∷ xs) h = none_of_both (bytes_eq name x) (list_any (bytes_e
     none_of_both : (a b : Bool) (n : ℕ) → cond a 1 0 + n ≡ 0 → (n ≡ 0 → b ≡ false) → (a || b) ≡ false
     none_of_both true b n h k = absurd (omega (arith, h))
     none_of_both false b n h k = k (omega (arith, h))
+
+-- a name that is found is among the others
+pub found_among : (names : List (List ℕ)) (name : List ℕ) (found : Option ℕ) (b : Bool) → b ≡ is_some found → found ≡ number_of names name → is_among names name ≡ b
+found_among names name found b e is = list_any-number_of names name ∙ ap (λ (o : Option ℕ). is_some o) (sym is) ∙ sym e
 
 itself : (name : List ℕ) → bytes_eq name name ≡ true
 itself name = (bytes_eq-Decides name name).1 refl
@@ -168,14 +174,27 @@ module _ (bytes : List ℕ) where
   names_step (Declaration name ts) ps = refl
   names_step (Alias name ms) ps = refl
 
-  -- the names up to a part have no repeats
-  pub names_here : (names : List (List ℕ)) (parts : List Part) (i : ℕ) (p : Part) → i < length parts → p ≡ get_or parts i p → names ++ state_names bytes (drop i parts) ≡ state_names bytes parts → AreDistinct (state_names bytes parts) → AreDistinct (names ++ state_names bytes (p ∷ []))
-  names_here names parts i p lt read is distinct =
-      let rest = drop (suc i) parts in
-      let cut : drop i parts ≡ p ∷ rest = drop-cons parts i p lt ∙ ap (λ (x : Part). x ∷ rest) (sym read) in
-      let whole : (names ++ state_names bytes (p ∷ [])) ++ state_names bytes rest ≡ state_names bytes parts =
-      append_assoc names (state_names bytes (p ∷ [])) (state_names bytes rest) ∙ ap (λ (l : List (List ℕ)). names ++ l) (sym (names_step p rest) ∙ ap (λ (l : List Part). state_names bytes l) (sym cut)) ∙ is in
-      distinct_front (names ++ state_names bytes (p ∷ [])) (state_names bytes rest) (subst AreDistinct (sym whole) distinct)
+  -- the names so far, and those from a part on
+  module _ (names : List (List ℕ)) (parts : List Part) (i : ℕ) (p : Part) (lt : i < length parts) (read : p ≡ get_or parts i p) (is : names ++ state_names bytes (drop i parts) ≡ state_names bytes parts) where
+    names_here : (names ++ state_names bytes (p ∷ [])) ++ state_names bytes (drop (i + 1) parts) ≡ state_names bytes parts
+    names_here =
+        let rest = drop (i + 1) parts in
+        let cut : drop i parts ≡ p ∷ rest = drop_more parts i p lt ∙ ap (λ (x : Part). x ∷ rest) (sym read) in
+        append_assoc names (state_names bytes (p ∷ [])) (state_names bytes rest) ∙ ap (λ (l : List (List ℕ)). names ++ l) (sym (names_step p rest) ∙ ap (λ (l : List Part). state_names bytes l) (sym cut)) ∙ is
+
+    -- a state is one name more
+    pub with_state : (name : Token) (ts : List TransitionText) → p ≡ Declaration name ts → AreDistinct (state_names bytes parts) → with_name names (name_of bytes name) ++ state_names bytes (drop (i + 1) parts) ≡ state_names bytes parts
+    with_state name ts e distinct =
+        let n = name_of bytes name in
+        let rest = state_names bytes (drop (i + 1) parts) in
+        let whole : (names ++ n ∷ []) ++ rest ≡ state_names bytes parts = subst (λ (x : Part). (names ++ state_names bytes (x ∷ [])) ++ rest ≡ state_names bytes parts) e names_here in
+        ap (λ (l : List (List ℕ)). l ++ rest) (new_name names n [] (distinct_front (names ++ n ∷ []) rest (subst AreDistinct (sym whole) distinct))) ∙ whole
+
+    pub without_state : (name : Token) (ms : List Token) → p ≡ Alias name ms → names ++ state_names bytes (drop (i + 1) parts) ≡ state_names bytes parts
+    without_state name ms e =
+        let rest = state_names bytes (drop (i + 1) parts) in
+        let whole : (names ++ []) ++ rest ≡ state_names bytes parts = subst (λ (x : Part). (names ++ state_names bytes (x ∷ [])) ++ rest ≡ state_names bytes parts) e names_here in
+        ap (λ (l : List (List ℕ)). l ++ rest) (sym (append-nil names)) ∙ whole
 
   state_count : (parts : List Part) → count_by is_state parts ≡ length (state_names bytes parts)
   state_count [] = refl

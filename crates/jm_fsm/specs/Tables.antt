@@ -1,12 +1,12 @@
 -- The table that a state machine is compiled to.
-use Rattle.std.specs.Prelude.{ℕ, ◌≡◌, ◌<◌, ◌↔◌, List, length, Some, IsSomeAnd, slice_get}
+use Rattle.std.specs.Prelude.{ℕ, ◌≡◌, ◌<◌, ◌↔◌, List, length, Some, slice_get}
 use Rattle.jm_model.specs.Words.{Word}
 use Rattle.jm_table.specs.Explorations.{IsWithoutRepeats}
 use Rattle.jm_table.specs.Tables.{Transitions, IsInGroup, IsWord, state_after_of}
 use Rattle.jm_fsm.specs.declared.machine.Destination.{Destination}
 use Rattle.jm_fsm.specs.Machines.{StateMachine}
 use Rattle.jm_fsm.specs.Meanings.{fsm_state_after}
-use Rattle.jm_fsm.specs.Categories.{category_count, IsMember, FsmHolds}
+use Rattle.jm_fsm.specs.Categories.{category_count, FsmHolds}
 
 -- Each state of the table stands for a state of the machine: after each word its state for where the word's path ends.
 -- Each is the state after some word, and no two stand for the same. So the table holds the states that words reach, and
@@ -18,17 +18,6 @@ pub record HasStates (m : StateMachine) (t : Transitions) : Type 0 where
       → slice_get destinations (state_after_of t word) ≡ Some (fsm_state_after m word)
   pub reached : (state : ℕ) → state < t.states → (word : Word) × IsWord t word × (state_after_of t word ≡ state)
   pub distinct : IsWithoutRepeats destinations
-
--- The table after has that many groups more than the table before, which had none: the states of the group of a
--- category are the places of the list at which its members stand.
-pub record HasGroups (m : StateMachine) (nodes : List Destination) (count : ℕ)
-    (before after : Transitions) : Type 0 where
-  pub states : after.states ≡ before.states
-  pub letters : after.letters ≡ before.letters
-  pub next : after.next ≡ before.next
-  pub many : length after.groups ≡ count
-  pub each : (category : ℕ) → category < count → (state : ℕ)
-      → IsInGroup after state category ↔ IsSomeAnd (slice_get nodes state) (IsMember m category)
 
 -- after each word of the table's letters the groups of the state are the categories that hold of the word
 abbrev pub IsCompiled : StateMachine → Transitions → Type 0

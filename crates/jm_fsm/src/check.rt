@@ -1,16 +1,13 @@
 //! What is wrong with a formula, step by step.
-ghost use Rattle.std.specs.Prelude.{◌≡◌, [], ◌∷◌, ◌++◌, false, List, count_by, OnOk, IfOk, IfErr};
+ghost use Rattle.std.specs.Prelude.{[], false};
 ghost use Rattle.jm_fsm.specs.Spelling.{is_state};
-ghost use Rattle.jm_reading.specs.Names.{is_among};
-ghost use Rattle.jm_fsm.specs.Faults.{is_alias, name_token, aliases_fault, is_grammar_word, is_reserved, part_name_fault, duplicate_state_fault, duplicate_transition_fault, part_transitions_fault, transitions_fault, states_fault};
-ghost use Rattle.jm_reading.specs.Faults.{Checks, Refuses};
-ghost use Rattle.jm_fsm.specs.declared.formula.TransitionText.{TransitionText};
+ghost use Rattle.jm_fsm.specs.Faults.{is_alias, name_token, aliases_fault, is_grammar_word, is_reserved, part_name_fault, duplicate_state_fault, duplicate_transition_fault, transitions_fault, states_fault};
+ghost use Rattle.jm_reading.specs.Faults.{Checks};
 
 use crate::formula::{Part, TransitionText};
 use jm_events::Names;
 use jm_model::{Counted, SpecError, SpecFault};
 use jm_reading::{GrammarWords, add_name, name_of};
-use jm_text::Token;
 use std::alloc::Global;
 
 const MAX_ALIASES: usize = 256;
@@ -50,31 +47,19 @@ impl GrammarWords for Words {
     }
 }
 
-fn is_reserved(name: &str) -> bool
-    ensures { result ≡ is_reserved name.now }
-{
-    name == "fail" || Words::is_reserved(name)
-}
-
 /// No state or alias is named by a word of the grammar, or `fail`.
 pub fn check_part_names(bytes: &[u8], parts: &[Part]) -> Result<(), SpecError>
     ensures { Checks result (part_name_fault bytes.now parts.now) }
 {
     for part in parts {
-        let name = part.name_token();
-        if is_reserved(name_of(bytes, name)) {
-            let line = name.line;
+        let token = part.name_token();
+        let name = name_of(bytes, token);
+        if name == "fail" || Words::is_reserved(name) {
+            let line = token.line;
             return Err(SpecFault::ReservedName { line }.into());
         }
     }
     Ok(())
-}
-
-/// Whether a name is among others.
-fn is_among(names: &Names, name: &str) -> bool
-    ensures { result ≡ is_among names.now name.now }
-{
-    names.find(name).is_some()
 }
 
 /// No state or alias has the name of an earlier one.
@@ -85,7 +70,7 @@ pub fn check_duplicate_states(alloc: Global, bytes: &[u8], parts: &[Part]) -> Re
     for part in parts {
         let token = part.name_token();
         let name = name_of(bytes, token);
-        if is_among(&names, name) {
+        if names.find(name).is_some() {
             let line = token.line;
             return Err(SpecFault::DuplicateState { line }.into());
         }
@@ -95,7 +80,7 @@ pub fn check_duplicate_states(alloc: Global, bytes: &[u8], parts: &[Part]) -> Re
 }
 
 /// In a state no transition is on the event of an earlier one, and at most one is a `default`.
-fn duplicate_transition(
+fn check_transitions(
     alloc: Global,
     bytes: &[u8],
     transitions: &[TransitionText],
@@ -105,54 +90,25 @@ fn duplicate_transition(
     let mut events = Names::new(alloc);
     let mut fallen = false;
     for transition in transitions {
-        fallen = new_transition(bytes, &mut events, fallen, *transition)?;
+        match *transition {
+            TransitionText::On { event, .. } => {
+                let name = name_of(bytes, event);
+                if events.find(name).is_some() {
+                    let line = event.line;
+                    return Err(SpecFault::DuplicateTransition { line }.into());
+                }
+                add_name(&mut events, name)?;
+            }
+            TransitionText::Fallback { word, .. } => {
+                if fallen {
+                    let line = word.line;
+                    return Err(SpecFault::DuplicateTransition { line }.into());
+                }
+                fallen = true;
+            }
+        }
     }
     Ok(())
-}
-
-/// A transition that is on none of these events, and is no `default` beside another. It answers whether there is a
-/// `default` now.
-fn new_transition(
-    bytes: &[u8],
-    events: &mut Names,
-    fallen: bool,
-    transition: TransitionText,
-) -> Result<bool, SpecError>
-    ensures ok { (rest : List TransitionText)
-        → IfOk result (λ next. duplicate_transition_fault bytes.now events.old fallen (transition ∷ rest)
-        ≡ duplicate_transition_fault bytes.now events.new next rest) }
-    ensures err { (rest : List TransitionText)
-        → IfErr result (Refuses (duplicate_transition_fault bytes.now events.old fallen (transition ∷ rest))) }
-{
-    match transition {
-        TransitionText::On { event, .. } => {
-            let name = name_of(bytes, event);
-            if is_among(events, name) {
-                let line = event.line;
-                return Err(SpecFault::DuplicateTransition { line }.into());
-            }
-            add_name(events, name)?;
-            Ok(fallen)
-        }
-        TransitionText::Fallback { word, .. } => {
-            if fallen {
-                let line = word.line;
-                return Err(SpecFault::DuplicateTransition { line }.into());
-            }
-            Ok(true)
-        }
-    }
-}
-
-fn check_part_transitions(alloc: Global, bytes: &[u8], part: &Part) -> Result<(), SpecError>
-    ensures { Checks result (part_transitions_fault bytes.now part.now) }
-{
-    match part {
-        Part::Declaration { transitions, .. } => {
-            duplicate_transition(alloc, bytes, transitions.as_slice())
-        }
-        Part::Alias { .. } => Ok(()),
-    }
 }
 
 /// In no state is a transition on the event of an earlier one, or a second `default`.
@@ -164,7 +120,9 @@ pub fn check_duplicate_transitions(
     ensures { Checks result (transitions_fault bytes.now parts.now) }
 {
     for part in parts {
-        check_part_transitions(alloc, bytes, part)?;
+        if let Part::Declaration { transitions, .. } = part {
+            check_transitions(alloc, bytes, transitions.as_slice())?;
+        }
     }
     Ok(())
 }

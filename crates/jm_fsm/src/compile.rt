@@ -1,10 +1,8 @@
-ghost use Rattle.std.specs.Prelude.{◌≡◌, ◌<◌, ◌≤◌, [], IfOk, IfErr, OnOk, length};
-ghost use Rattle.jm_fsm.specs.Tables.{HasGroups, HasStates, IsCompiled};
+ghost use Rattle.std.specs.Prelude.{◌≡◌, IfOk, IfErr, length};
+ghost use Rattle.jm_fsm.specs.Tables.{HasStates, IsCompiled};
 ghost use Rattle.jm_fsm.specs.Categories.{category_count};
-ghost use Rattle.jm_table.specs.Explorations.{most_states};
-ghost use Rattle.jm_table.specs.Tables.{most_groups};
 
-use crate::machine::{Destination, Fsm};
+use crate::machine::Fsm;
 use jm_events::EventTable;
 use jm_model::SpecError;
 use jm_table::{Table, build, places};
@@ -22,30 +20,14 @@ impl Fsm {
     {
         let categories = self.category_count();
         let (mut table, nodes) = build(alloc, self, events.letters())?;
-        self.group(alloc, categories, nodes.as_slice(), &mut table)?;
-        Ok(table)
-    }
-
-    /// Adds the groups of the categories in order, to a table whose states have these nodes.
-    fn group(
-        &self,
-        alloc: Global,
-        categories: usize,
-        nodes: &[Destination],
-        table: &mut Table,
-    ) -> Result<(), SpecError>
-        requires categories { categories ≡ category_count self.now }
-        requires room { categories < most_groups }
-        requires states { table.old.states ≡ length nodes.now }
-        requires bounded { length nodes.now ≤ most_states }
-        requires groups { table.old.groups ≡ [] }
-        ensures groups { OnOk result (HasGroups self.now nodes.now (category_count self.now) table.old table.new) }
-        ensures fault { IfErr result (λ e. e ≡ SpecError.NoMemory) }
-    {
         for category in 0..categories {
-            let members = places(alloc, nodes, move |node| self.is_member(category, *node))?;
+            let members = places(
+                alloc,
+                nodes.as_slice(),
+                move |node| self.is_member(category, *node),
+            )?;
             table.add_group(members.as_slice())?;
         }
-        Ok(())
+        Ok(table)
     }
 }

@@ -1,10 +1,10 @@
-ghost use Rattle.std.specs.Prelude.{ℕ, ◌≡◌, ◌<◌, ◌≤◌, ◌+◌, ◌-◌, ◌^◌, ◌↔◌, false, [], ◌∷◌, ◌++◌, length, map, IsTrue, Contains, OnOk, IfOk, IfErr, string_bytes};
+ghost use Rattle.std.specs.Prelude.{◌≡◌, ◌<◌, ◌≤◌, ◌↔◌, length, IsTrue, Contains, IfOk};
 ghost use Rattle.jm_fsm.specs.WellFormed.{IsMachine};
-ghost use Rattle.jm_fsm.specs.Categories.{IsMember, AreDistinct, category_names, category_count};
+ghost use Rattle.jm_fsm.specs.Categories.{IsMember, category_names, category_count};
 ghost use Rattle.jm_fsm.specs.Meanings.{destination_of, next_destination};
 
 use jm_events::Names;
-use jm_model::{Letter, NoMemory, SpecError};
+use jm_model::{Letter, NoMemory};
 use std::alloc::Global;
 use std::marker::Model;
 
@@ -17,17 +17,6 @@ pub enum Destination {
     Fail,
 }
 
-impl Destination {
-    fn is_fail(self) -> bool
-        ensures { IsTrue result ↔ (self ≡ Destination.Fail) }
-    {
-        match self {
-            Destination::Fail => true,
-            Destination::State(_) => false,
-        }
-    }
-}
-
 /// A transition on an event.
 #[derive(Clone, Copy)]
 pub struct Transition {
@@ -38,9 +27,9 @@ pub struct Transition {
 /// A state. Contracts see it as its `StateDefinition`.
 #[derive(Drop)]
 pub struct State {
-    name: String,
-    transitions: Vec<Transition>,
-    fallback: Option<Destination>,
+    pub(crate) name: String,
+    pub(crate) transitions: Vec<Transition>,
+    pub(crate) fallback: Option<Destination>,
 }
 
 impl Model for State {
@@ -57,36 +46,6 @@ impl Model for State {
 }
 
 impl State {
-    /// A state of this name that lists no transition.
-    pub(crate) fn new(alloc: Global, name: &str) -> Result<State, SpecError>
-        ensures ok { IfOk result (λ s. s ≡ record { name = name.now; transitions = []; fallback = None }) }
-        ensures err { IfErr result (λ e. e ≡ SpecError.NoMemory) }
-    {
-        let name = String::from_str(alloc, name)?;
-        Ok(State {
-            name,
-            transitions: Vec::new(alloc),
-            fallback: None,
-        })
-    }
-
-    /// Lists one more transition.
-    pub(crate) fn list(&mut self, transition: Transition) -> Result<(), SpecError>
-        ensures ok { OnOk result (self.new
-            ≡ record self.old { transitions = self.old.transitions ++ transition ∷ [] }) }
-        ensures err { IfErr result (λ e. e ≡ SpecError.NoMemory) }
-    {
-        self.transitions.push(transition)?;
-        Ok(())
-    }
-
-    /// Leads the letters there that it doesn't list.
-    pub(crate) fn fall_back(&mut self, destination: Destination)
-        ensures { self.new ≡ record self.old { fallback = Some destination } }
-    {
-        self.fallback = Some(destination);
-    }
-
     /// Where a letter leads.
     fn destination(&self, letter: Letter) -> Destination
         ensures { result ≡ destination_of self.now letter.0 }
@@ -103,8 +62,8 @@ impl State {
 /// A set of states under a name. Contracts see it as its `AliasDefinition`.
 #[derive(Drop)]
 pub struct Alias {
-    name: String,
-    members: Vec<Destination>,
+    pub(crate) name: String,
+    pub(crate) members: Vec<Destination>,
 }
 
 impl Model for Alias {
@@ -117,27 +76,6 @@ impl Model for Alias {
 }
 
 impl Alias {
-    /// An alias of this name without members.
-    pub(crate) fn new(alloc: Global, name: &str) -> Result<Alias, SpecError>
-        ensures ok { IfOk result (λ a. a ≡ record { name = name.now; members = [] }) }
-        ensures err { IfErr result (λ e. e ≡ SpecError.NoMemory) }
-    {
-        let name = String::from_str(alloc, name)?;
-        Ok(Alias {
-            name,
-            members: Vec::new(alloc),
-        })
-    }
-
-    /// Adds a member.
-    pub(crate) fn add(&mut self, member: Destination) -> Result<(), SpecError>
-        ensures ok { OnOk result (self.new ≡ record self.old { members = self.old.members ++ member ∷ [] }) }
-        ensures err { IfErr result (λ e. e ≡ SpecError.NoMemory) }
-    {
-        self.members.push(member)?;
-        Ok(())
-    }
-
     /// Whether a state is a member.
     fn contains(&self, destination: Destination) -> bool
         ensures { IsTrue result ↔ Contains self.now.members destination }
@@ -148,58 +86,6 @@ impl Alias {
             }
         }
         false
-    }
-}
-
-/// The states and aliases of a machine that is being made. Contracts see it as a `StateMachine`.
-#[derive(Drop)]
-pub struct Draft {
-    states: Vec<State>,
-    aliases: Vec<Alias>,
-}
-
-impl Model for Draft {
-    ghost use Rattle.jm_fsm.specs.Machines.{StateMachine};
-
-    ghost Value = { StateMachine };
-
-    ghost view = { λ m. record { states = m.states.items; aliases = m.aliases.items } };
-}
-
-impl Draft {
-    /// No state and no alias.
-    pub(crate) fn new(alloc: Global) -> Draft
-        ensures { result ≡ record { states = []; aliases = [] } }
-    {
-        Draft {
-            states: Vec::new(alloc),
-            aliases: Vec::new(alloc),
-        }
-    }
-
-    pub(crate) fn add_state(&mut self, state: State) -> Result<(), SpecError>
-        ensures ok { OnOk result (self.new ≡ record self.old { states = self.old.states ++ state ∷ [] }) }
-        ensures err { IfErr result (λ e. e ≡ SpecError.NoMemory) }
-    {
-        self.states.push(state)?;
-        Ok(())
-    }
-
-    pub(crate) fn add_alias(&mut self, alias: Alias) -> Result<(), SpecError>
-        ensures ok { OnOk result (self.new ≡ record self.old { aliases = self.old.aliases ++ alias ∷ [] }) }
-        ensures err { IfErr result (λ e. e ≡ SpecError.NoMemory) }
-    {
-        self.aliases.push(alias)?;
-        Ok(())
-    }
-
-    /// The machine.
-    pub(crate) fn finish(self) -> Fsm
-        requires { IsMachine self }
-        ensures { result ≡ self }
-    {
-        let Draft { states, aliases } = self;
-        Fsm { states, aliases }
     }
 }
 
@@ -222,6 +108,14 @@ impl Model for Fsm {
 }
 
 impl Fsm {
+    /// The machine of these states and aliases.
+    pub(crate) fn new(states: Vec<State>, aliases: Vec<Alias>) -> Fsm
+        requires { IsMachine (record { states = states.items; aliases = aliases.items }) }
+        ensures { result ≡ record { states = states.items; aliases = aliases.items } }
+    {
+        Fsm { states, aliases }
+    }
+
     /// The names of the categories, at most 1,280: of the states, of the aliases, and `fail`. The number of a name is
     /// the category's group in the compiled table.
     pub fn categories(&self, alloc: Global) -> Result<Names, NoMemory>
@@ -230,8 +124,12 @@ impl Fsm {
         ensures bounded { IfOk result (λ names. length names ≤ 1280) }
     {
         let mut names = Names::new(alloc);
-        add_names(&mut names, self.states.as_slice())?;
-        add_names(&mut names, self.aliases.as_slice())?;
+        for state in &self.states {
+            names.add(state.name.as_str())?;
+        }
+        for alias in &self.aliases {
+            names.add(alias.name.as_str())?;
+        }
         names.add("fail")?;
         Ok(names)
     }
@@ -269,44 +167,6 @@ impl Fsm {
         if category < self.aliases.len() {
             return self.aliases[category].contains(destination);
         }
-        destination.is_fail()
+        destination == Destination::Fail
     }
-}
-
-/// What has a name.
-trait Named {
-    ghost use Rattle.jm_model.specs.Words.{Text};
-
-    ghost called: { Self → Text };
-
-    fn name(&self) -> &str
-        ensures { result.now ≡ called self.now };
-}
-
-impl Named for State {
-    ghost called = { λ s. s.name };
-
-    fn name(&self) -> &str {
-        self.name.as_str()
-    }
-}
-
-impl Named for Alias {
-    ghost called = { λ a. a.name };
-
-    fn name(&self) -> &str {
-        self.name.as_str()
-    }
-}
-
-/// Adds the names of these, which no other has.
-fn add_names<T: Named>(names: &mut Names, named: &[T]) -> Result<(), NoMemory>
-    requires distinct { AreDistinct (names.old ++ map T.called named.now) }
-    requires room { length names.old + length named.now < 2 ^ 32 - 1 }
-    ensures { OnOk result (names.new ≡ names.old ++ map T.called named.now) }
-{
-    for one in named {
-        names.add(one.name())?;
-    }
-    Ok(())
 }

@@ -1,59 +1,31 @@
 //! The rules of the grammar: each takes from the front of the tokens that are left what it spells.
 ghost use Rattle.std.specs.Prelude.{◌≡◌, true, IfOk};
 ghost use Rattle.std.specs.List.{list_any};
-ghost use Rattle.jm_reading.specs.Answers.{Gives, Leaves};
+ghost use Rattle.jm_reading.specs.Answers.{Gives};
 ghost use Rattle.jm_reading.specs.Reading.{is_left};
 ghost use Rattle.jm_reading.specs.Taking.{Takes, with_item};
 ghost use Rattle.jm_fsm.specs.Spelling.{is_state};
-ghost use Rattle.jm_fsm.specs.Rules.{fallback_at, listed_at, transition_at, comma_at, entry_at, is_inside, declaration_at, more_member_at, begins_more_member, alias_at, part_at, formula_at};
+ghost use Rattle.jm_fsm.specs.Rules.{transition_at, entry_at, is_inside, declaration_at, more_member_at, begins_more_member, alias_at, part_at, formula_at};
 
 use crate::formula::{Part, TransitionText};
 use jm_model::SpecError;
 use jm_reading::{Cursor, Items, Repeat, fold_many};
 use jm_text::Token;
 
-/// "default" NAME
-#[tactic(auto, unfolding(crate::specs::Rules::fallback_at))]
-fn fallback(cursor: &mut Cursor<'_>) -> Result<TransitionText, SpecError>
-    ensures { Takes cursor.old result cursor.new fallback_at }
-{
-    let word = cursor.word(b"default")?;
-    let destination = cursor.name()?;
-    Ok(TransitionText::Fallback { word, destination })
-}
-
-/// NAME "->" NAME
-#[tactic(auto, unfolding(crate::specs::Rules::listed_at))]
-fn listed(cursor: &mut Cursor<'_>) -> Result<TransitionText, SpecError>
-    ensures { Takes cursor.old result cursor.new listed_at }
-{
-    let event = cursor.name()?;
-    cursor.mark(b"->")?;
-    let destination = cursor.name()?;
-    Ok(TransitionText::On { event, destination })
-}
-
-#[tactic(auto, unfolding(crate::specs::Rules::transition_at))]
+/// NAME "->" NAME | "default" NAME
+#[tactic(auto, unfolding(crate::specs::Rules::fallback_at, crate::specs::Rules::listed_at, crate::specs::Rules::transition_at))]
 fn transition(cursor: &mut Cursor<'_>) -> Result<TransitionText, SpecError>
     ensures { Takes cursor.old result cursor.new transition_at }
 {
     if cursor.is_word_at(0, b"default") && !cursor.is_mark_at(1, b"->") {
-        fallback(cursor)
-    } else {
-        listed(cursor)
+        let word = cursor.word(b"default")?;
+        let destination = cursor.name()?;
+        return Ok(TransitionText::Fallback { word, destination });
     }
-}
-
-/// A comma, which may be missing.
-#[tactic(auto, unfolding(crate::specs::Rules::comma_at))]
-fn comma(cursor: &mut Cursor<'_>) -> Result<(), SpecError>
-    ensures reads { Leaves result cursor.new.rest.now (comma_at cursor.old.bytes.now cursor.old.rest.now) }
-    ensures bytes { cursor.new.bytes.now ≡ cursor.old.bytes.now }
-{
-    if !cursor.is_mark_at(0, b",") {
-        return Ok(());
-    }
-    cursor.mark(b",")
+    let event = cursor.name()?;
+    cursor.mark(b"->")?;
+    let destination = cursor.name()?;
+    Ok(TransitionText::On { event, destination })
 }
 
 /// Transition [ "," ], up to a `]`
@@ -70,14 +42,16 @@ impl Repeat for Entry {
         !cursor.is_mark_at(0, b"]")
     }
 
-    #[tactic(auto, unfolding(crate::specs::Rules::entry_at))]
+    #[tactic(auto, unfolding(crate::specs::Rules::entry_at, crate::specs::Rules::comma_at))]
     fn add(
         &self,
         whole: Items<TransitionText>,
         cursor: &mut Cursor<'_>,
     ) -> Result<Items<TransitionText>, SpecError> {
         let transition = transition(cursor)?;
-        comma(cursor)?;
+        if cursor.is_mark_at(0, b",") {
+            cursor.mark(b",")?;
+        }
         whole.with(transition)
     }
 }
@@ -127,19 +101,7 @@ fn alias(cursor: &mut Cursor<'_>) -> Result<Part, SpecError>
     Ok(Part::Alias { name, members })
 }
 
-/// State | Alias
-#[tactic(auto, unfolding(crate::specs::Rules::part_at))]
-fn part(cursor: &mut Cursor<'_>) -> Result<Part, SpecError>
-    ensures { Takes cursor.old result cursor.new part_at }
-{
-    if cursor.is_word_at(0, b"alias") && !cursor.is_mark_at(1, b"[") {
-        alias(cursor)
-    } else {
-        declaration(cursor)
-    }
-}
-
-/// A state or an alias, up to the end.
+/// State | Alias, up to the end
 struct OnePart;
 
 impl Repeat for OnePart {
@@ -153,8 +115,13 @@ impl Repeat for OnePart {
         cursor.is_left()
     }
 
+    #[tactic(auto, unfolding(crate::specs::Rules::part_at))]
     fn add(&self, whole: Items<Part>, cursor: &mut Cursor<'_>) -> Result<Items<Part>, SpecError> {
-        whole.with(part(cursor)?)
+        if cursor.is_word_at(0, b"alias") && !cursor.is_mark_at(1, b"[") {
+            whole.with(alias(cursor)?)
+        } else {
+            whole.with(declaration(cursor)?)
+        }
     }
 }
 

@@ -1,11 +1,10 @@
 //! What is wrong with a formula, step by step.
-ghost use Rattle.std.specs.Prelude.{◌≡◌, ◌≤◌, ◌<◌, ◌≤◌, not, ◌+◌, ◌-◌, ◌^◌, [], IfOk, IfErr, OnOk, length, nat_lt, sum_by};
-ghost use Rattle.std.specs.List.{list_any};
+ghost use Rattle.std.specs.Prelude.{◌≡◌, ◌≤◌, ◌<◌, ◌≤◌, ◌+◌, ◌-◌, ◌^◌, [], IfOk, IfErr, OnOk, length, nat_lt, sum_by};
 ghost use Rattle.jm_events.specs.Events.{event_names};
 ghost use Rattle.jm_reading.specs.Names.{is_among};
 ghost use Rattle.jm_reading.specs.Tokens.{name_of};
 ghost use Rattle.jm_reading.specs.Faults.{Checks};
-ghost use Rattle.jm_grammar.specs.Faults.{nonterminals, most_nonterminals, nonterminals_fault, productions_fault, is_epsilon, symbol_count, is_long, has_long, symbols_fault, left_name_fault, clash_fault};
+ghost use Rattle.jm_grammar.specs.Faults.{nonterminals, nonterminals_fault, productions_fault, is_epsilon, symbol_count, is_long, symbols_fault, left_name_fault, clash_fault};
 
 use crate::formula::Part;
 use jm_events::{EventTable, Names};
@@ -35,17 +34,6 @@ pub fn nonterminals(alloc: Global, bytes: &[u8], parts: &[Part]) -> Result<Names
     Ok(names)
 }
 
-/// How many nonterminals there may be, where the rule may begin anywhere or may not.
-fn most_nonterminals(suffix: bool) -> u32
-    ensures { result ≡ most_nonterminals suffix }
-{
-    if suffix {
-        MAX_NONTERMINALS_OF_SUFFIX
-    } else {
-        MAX_NONTERMINALS
-    }
-}
-
 /// There are at most 64 nonterminals, or 31 where the rule may begin anywhere.
 pub fn check_nonterminals(
     bytes: &[u8],
@@ -57,7 +45,12 @@ pub fn check_nonterminals(
     ensures checked { Checks result (nonterminals_fault bytes.now suffix parts.now) }
     ensures bounded { IfOk result (λ _. length known.now ≤ 64) }
 {
-    if known.len() > most_nonterminals(suffix) {
+    let most = if suffix {
+        MAX_NONTERMINALS_OF_SUFFIX
+    } else {
+        MAX_NONTERMINALS
+    };
+    if known.len() > most {
         let what = Counted::Nonterminals;
         return Err(SpecFault::TooMany { what }.into());
     }
@@ -98,48 +91,28 @@ impl GrammarWords for Words {
     }
 }
 
-/// Whether a symbol is another.
-fn is_counted(bytes: &[u8], symbol: Token) -> bool
-    ensures { result ≡ not (is_epsilon (name_of bytes.now symbol)) }
-{
-    !is_epsilon(name_of(bytes, symbol))
-}
-
 /// Whether there are more than 32 symbols other than `epsilon`.
 fn is_long(bytes: &[u8], symbols: &[Token]) -> bool
     ensures { result ≡ is_long bytes.now symbols.now }
 {
     symbols
         .iter()
-        .filter(|symbol| is_counted(bytes, **symbol))
+        .filter(|symbol| !is_epsilon(name_of(bytes, **symbol)))
         .count()
         > MAX_SYMBOLS
-}
-
-/// Whether an alternative is so.
-fn has_long(bytes: &[u8], part: &Part) -> bool
-    ensures { result ≡ has_long bytes.now part.now }
-{
-    part.alternatives
-        .as_slice()
-        .iter()
-        .any(|symbols| is_long(bytes, symbols.as_slice()))
-}
-
-/// Whether an alternative of one of them is so.
-fn is_any_long(bytes: &[u8], parts: &[Part]) -> bool
-    ensures { result ≡ list_any (has_long bytes.now) parts.now }
-{
-    parts.iter().any(|part| has_long(bytes, part))
 }
 
 /// There are at most 32 symbols other than `epsilon` in each alternative.
 pub fn check_symbols(bytes: &[u8], parts: &[Part]) -> Result<(), SpecError>
     ensures { Checks result (symbols_fault bytes.now parts.now) }
 {
-    if is_any_long(bytes, parts) {
-        let what = Counted::Symbols;
-        return Err(SpecFault::TooMany { what }.into());
+    for part in parts {
+        for symbols in part.alternatives.as_slice() {
+            if is_long(bytes, symbols.as_slice()) {
+                let what = Counted::Symbols;
+                return Err(SpecFault::TooMany { what }.into());
+            }
+        }
     }
     Ok(())
 }

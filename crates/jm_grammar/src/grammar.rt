@@ -1,4 +1,4 @@
-ghost use Rattle.std.specs.Prelude.{◌≡◌, ◌<◌, ◌≤◌, ◌↔◌, All, IsTrue, IfOk, IfErr, length};
+ghost use Rattle.std.specs.Prelude.{◌≡◌, ◌<◌, All, IfOk, IfErr};
 ghost use Rattle.jm_grammar.specs.Categories.{category_names};
 ghost use Rattle.jm_grammar.specs.Grammars.{IsSmall, HasSmallNumbers};
 
@@ -65,8 +65,10 @@ impl Grammar {
         ensures ok { IfOk result (λ g. g ≡ record { productions = productions.items; start = start }) }
         ensures err { IfErr result (λ _. IsSmall productions.items start → ⊥) }
     {
-        if productions.len() <= MAX_PRODUCTIONS && are_short(productions.as_slice()) {
-            Ok(Grammar::new(productions, start))
+        let are_short = productions.iter().all(|production| production.symbols.as_slice().len()
+            <= MAX_SYMBOLS);
+        if productions.len() <= MAX_PRODUCTIONS && are_short {
+            Ok(Grammar { productions, start })
         } else {
             Err(NoMemory)
         }
@@ -104,12 +106,6 @@ impl Grammar {
 }
 
 impl Production {
-    fn is_short(&self) -> bool
-        ensures { IsTrue result ↔ length self.now.symbols ≤ 32 }
-    {
-        self.symbols.as_slice().len() <= MAX_SYMBOLS
-    }
-
     /// An equal production.
     pub fn copy(&self, alloc: Global) -> Result<Production, NoMemory>
         ensures { IfOk result (λ p. p ≡ self.now) }
@@ -120,11 +116,4 @@ impl Production {
             symbols,
         })
     }
-}
-
-/// Whether no production has more than 32 symbols.
-fn are_short(productions: &[Production]) -> bool
-    ensures { IsTrue result ↔ All (λ p. length p.symbols ≤ 32) productions.now }
-{
-    productions.iter().all(|production| production.is_short())
 }

@@ -1,6 +1,5 @@
 //! A grammar without what spells no word.
-ghost use Rattle.std.specs.Prelude.{ℕ, ◌≡◌, ◌↔◌, ◌⊎◌, List, All, Contains, IfOk, filter};
-ghost use Rattle.jm_grammar.specs.Grammars.{IsSmallProduction};
+ghost use Rattle.std.specs.Prelude.{ℕ, ◌≡◌, ◌↔◌, ◌⊎◌, List, Contains, IfOk};
 ghost use Rattle.jm_grammar.specs.declared.grammar.Production.{Production};
 ghost use Rattle.jm_grammar.specs.Meanings.{IsWord, IsIn, DerivesSome};
 ghost use Rattle.jm_grammar.specs.Rounds.{are_known};
@@ -21,21 +20,13 @@ impl Grammar {
             → Contains self.now.productions p) }
     {
         let known = self.productive(u32::MAX);
-        let kept = kept(self.allocator(), self.productions(), known)?;
+        let alloc = self.allocator();
+        let mut kept = Vec::new(alloc);
+        for production in self.productions() {
+            if are_known(production.symbols.as_slice(), u32::MAX, known) {
+                kept.push(production.copy(alloc)?)?;
+            }
+        }
         Ok(Grammar::new(kept, self.start()))
     }
-}
-
-/// The productions whose nonterminals are known.
-fn kept(alloc: Global, productions: &[Production], known: u64) -> Result<Vec<Production>, NoMemory>
-    requires { All IsSmallProduction productions.now }
-    ensures { IfOk result (λ kept. kept.items ≡ filter (λ p. are_known 4294967295 known p.symbols) productions.now) }
-{
-    let mut kept = Vec::new(alloc);
-    for production in productions {
-        if are_known(production.symbols.as_slice(), u32::MAX, known) {
-            kept.push(production.copy(alloc)?)?;
-        }
-    }
-    Ok(kept)
 }

@@ -1,8 +1,8 @@
 //! The grammar that a formula says.
 ghost use Rattle.std.specs.Prelude.{◌≡◌, ◌≤◌, [], length, IfOk, None};
 ghost use Rattle.jm_events.specs.Events.{event_names};
-ghost use Rattle.jm_reading.specs.Faults.{Checks, Makes, Answers, with_each};
-ghost use Rattle.jm_grammar.specs.Faults.{nonterminals, productions_fault, symbols_fault, nonterminal_said, symbol_said, with_symbol, with_alternative, with_part, grammar_of, first_fault};
+ghost use Rattle.jm_reading.specs.Faults.{Checks, Makes, Answers};
+ghost use Rattle.jm_grammar.specs.Faults.{nonterminals, productions_fault, symbols_fault, nonterminal_said, with_symbol, with_part, grammar_of, first_fault};
 
 use crate::check::{self, Words};
 use crate::formula::Part;
@@ -36,81 +36,23 @@ impl<'a> Resolver<'a> {
         }
     }
 
-    /// The symbol of a name.
-    fn symbol(&self, token: Token) -> Result<GrammarSymbol, SpecError>
-        ensures { Answers result
-            (symbol_said self.now.bytes.now (event_names self.now.table.now) self.now.known.now token) }
-    {
-        match self.table.letter(name_of(self.bytes, token)) {
-            Some(letter) => Ok(GrammarSymbol::Letter(letter)),
-            None => {
-                let number = self.nonterminal(token)?;
-                Ok(GrammarSymbol::Nonterminal(number))
-            }
-        }
-    }
-
     /// Adds a symbol, where it isn't `epsilon`.
     fn add_symbol(&self, symbols: &mut Items<GrammarSymbol>, token: Token) -> Result<(), SpecError>
         ensures { Makes result symbols.new
             (with_symbol self.now.bytes.now (event_names self.now.table.now) self.now.known.now symbols.old token) }
     {
-        if check::is_epsilon(name_of(self.bytes, token)) {
+        let name = name_of(self.bytes, token);
+        if check::is_epsilon(name) {
             return Ok(());
         }
-        let symbol = self.symbol(token)?;
+        let symbol = match self.table.letter(name) {
+            Some(letter) => GrammarSymbol::Letter(letter),
+            None => GrammarSymbol::Nonterminal(self.nonterminal(token)?),
+        };
         symbols.push(symbol)
     }
 
-    fn add_symbols(
-        &self,
-        symbols: &mut Items<GrammarSymbol>,
-        alternative: &[Token],
-    ) -> Result<(), SpecError>
-        ensures { Makes result symbols.new (with_each (with_symbol
-            self.now.bytes.now (event_names self.now.table.now) self.now.known.now) symbols.old alternative.now) }
-    {
-        for token in alternative {
-            self.add_symbol(symbols, *token)?;
-        }
-        Ok(())
-    }
-
-    /// Adds the production of an alternative.
-    fn add_alternative(
-        &self,
-        alloc: Global,
-        left: u8,
-        productions: &mut Items<Production>,
-        alternative: &[Token],
-    ) -> Result<(), SpecError>
-        ensures { Makes result productions.new (with_alternative
-            self.now.bytes.now (event_names self.now.table.now) self.now.known.now left
-            productions.old alternative.now) }
-    {
-        let mut symbols = Items::new(alloc);
-        self.add_symbols(&mut symbols, alternative)?;
-        productions.push(Production { left, symbols })
-    }
-
-    fn add_alternatives(
-        &self,
-        alloc: Global,
-        left: u8,
-        productions: &mut Items<Production>,
-        alternatives: &[Items<Token>],
-    ) -> Result<(), SpecError>
-        ensures { Makes result productions.new (with_each (with_alternative
-            self.now.bytes.now (event_names self.now.table.now) self.now.known.now left)
-            productions.old alternatives.now) }
-    {
-        for alternative in alternatives {
-            self.add_alternative(alloc, left, productions, alternative.as_slice())?;
-        }
-        Ok(())
-    }
-
-    /// Adds the productions of a left side and its alternatives.
+    /// Adds the productions of a left side, one for each alternative.
     fn add_part(
         &self,
         alloc: Global,
@@ -121,20 +63,12 @@ impl<'a> Resolver<'a> {
             self.now.bytes.now (event_names self.now.table.now) self.now.known.now productions.old part.now) }
     {
         let left = self.nonterminal(part.left)?;
-        self.add_alternatives(alloc, left, productions, part.alternatives.as_slice())
-    }
-
-    fn add_parts(
-        &self,
-        alloc: Global,
-        productions: &mut Items<Production>,
-        parts: &[Part],
-    ) -> Result<(), SpecError>
-        ensures { Makes result productions.new (with_each (with_part
-            self.now.bytes.now (event_names self.now.table.now) self.now.known.now) productions.old parts.now) }
-    {
-        for part in parts {
-            self.add_part(alloc, productions, part)?;
+        for alternative in part.alternatives.as_slice() {
+            let mut symbols = Items::new(alloc);
+            for token in alternative.as_slice() {
+                self.add_symbol(&mut symbols, *token)?;
+            }
+            productions.push(Production { left, symbols })?;
         }
         Ok(())
     }
@@ -162,7 +96,9 @@ fn known_grammar(
         table,
         known,
     };
-    resolver.add_parts(alloc, &mut productions, parts)?;
+    for part in parts {
+        resolver.add_part(alloc, &mut productions, part)?;
+    }
     Ok(Grammar::new(productions.into_vec(), 0))
 }
 

@@ -1,13 +1,33 @@
 -- What blocks say.
+use Rattle.std.specs.Prelude.{◌⊎◌, Option, Some, None, MatchOption}
 use Rattle.std.proofs.Common.{◌≡◌, ℕ, ◌+◌, ◌-◌, ◌≤◌, List, [], ◌∷◌, ◌++◌, length, take, drop, refl, sym, ap, ◌∙◌, subst, inl, inr, ⊎_elim, append_assoc, append-nil, arith}
 use Rattle.std.proofs.lemmas.List.{length-take, length-drop, drop-drop, drop_all}
 use Rattle.jm_text.specs.declared.token.Token.{Token}
 use Rattle.jm_handler.specs.declared.term.Term.{Term}
 use Rattle.jm_handler.specs.Statements.{IsStatement, AreStatements}
-use Rattle.jm_handler.specs.Answers.{AddsStatement}
+use Rattle.jm_handler.specs.Terms.{Prints, PrintsNone}
 use Rattle.jm_handler.specs.Blocks.{ArePrinted, Says}
 use Rattle.jm_handler.proofs.StatementLemmas.{statements-same}
 use Rattle.jm_handler.proofs.TermLemmas.{terms-same}
+
+-- the terms of the statement stand after the old ones, if it prints
+abbrev pub AddsStatement : List ℕ → List (List ℕ) → List Token → List (List Term) → List (List Term) → Type 0
+AddsStatement bytes ps run old new =
+    ((terms : List Term) × Prints bytes ps run terms × (new ≡ old ++ terms ∷ []))
+    ⊎ (PrintsNone bytes ps run × (new ≡ old))
+
+-- of a call that answered what a statement prints, if it does
+pub adds_some : (bytes : List ℕ) (ps : List (List ℕ)) (run : List Token) (old new : List (List Term)) (o : Option (List Term)) (terms : List Term)
+    → MatchOption o (PrintsNone bytes ps run) (Prints bytes ps run) → o ≡ Some terms → new ≡ old ++ terms ∷ [] → AddsStatement bytes ps run old new
+adds_some bytes ps run old new None terms said is added = cc
+adds_some bytes ps run old new (Some x) terms said is added =
+    let same : x ≡ terms = cc in
+    inl (terms, subst (λ (v : List Term). Prints bytes ps run v) same said, added)
+
+pub adds_none : (bytes : List ℕ) (ps : List (List ℕ)) (run : List Token) (old new : List (List Term)) (o : Option (List Term))
+    → MatchOption o (PrintsNone bytes ps run) (Prints bytes ps run) → o ≡ None → new ≡ old → AddsStatement bytes ps run old new
+adds_none bytes ps run old new None said is kept = inr (said, kept)
+adds_none bytes ps run old new (Some x) said is kept = cc
 
 -- a statement in front of others
 pub statement_first : (bytes : List ℕ) (rest : List Token) (n : ℕ) (runs : List (List Token)) → IsStatement bytes rest n → AreStatements bytes (drop n rest) runs

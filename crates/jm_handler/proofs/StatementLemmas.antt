@@ -29,17 +29,25 @@ pub depth_small : (bytes : List ℕ) (i depth next : ℕ) (t : Token) → depth 
 depth_small bytes i depth next t h is = let few = depth_few bytes depth t in omega arith
 
 -- the test of a place
+pub EndsAt-here : (bytes : List ℕ) (tokens : List Token) (i depth : ℕ) (d : Token) → i < length tokens → depth ≡ depth_of bytes (take (i + 1) tokens)
+    → depth ≡ 0 → may_end bytes (get_or tokens i d) ≡ true → EndsAt bytes tokens i
+EndsAt-here bytes tokens i depth d h is outside last =
+    (sym is ∙ outside, subst (λ (o : Option Token). IsSomeAnd o (λ t. may_end bytes t ≡ true)) (sym (slice_get-get_or tokens i d h)) last)
+
+pub EndsAt-last : (bytes : List ℕ) (tokens : List Token) (i : ℕ) (d : Token) → i < length tokens → EndsAt bytes tokens i → may_end bytes (get_or tokens i d) ≡ true
+EndsAt-last bytes tokens i d h (outside, last) = subst (λ (o : Option Token). IsSomeAnd o (λ t. may_end bytes t ≡ true)) (slice_get-get_or tokens i d h) last
+
 pub EndsAt-true : (bytes : List ℕ) (tokens : List Token) (i depth : ℕ) (d : Token) (ends : Bool) → i < length tokens → depth ≡ depth_of bytes (take (i + 1) tokens)
     → ends ≡ (depth == 0 && may_end bytes (get_or tokens i d)) → ends ≡ true → EndsAt bytes tokens i
 EndsAt-true bytes tokens i depth d ends h is said ended =
     let parts = and_parts (depth == 0) (may_end bytes (get_or tokens i d)) (sym said ∙ ended) in
-    (sym is ∙ eqb-true depth 0 parts.0, subst (λ (o : Option Token). IsSomeAnd o (λ t. may_end bytes t ≡ true)) (sym (slice_get-get_or tokens i d h)) parts.1)
+    EndsAt-here bytes tokens i depth d h is (eqb-true depth 0 parts.0) parts.1
 
 pub EndsAt-false : (bytes : List ℕ) (tokens : List Token) (i depth : ℕ) (d : Token) (ends : Bool) → i < length tokens → depth ≡ depth_of bytes (take (i + 1) tokens)
     → ends ≡ (depth == 0 && may_end bytes (get_or tokens i d)) → ends ≡ false → EndsAt bytes tokens i → ⊥
-EndsAt-false bytes tokens i depth d ends h is said isnt (outside, last) =
-    let zero : (depth == 0) ≡ true = eq-eqb depth 0 (is ∙ outside) in
-    let there : may_end bytes (get_or tokens i d) ≡ true = subst (λ (o : Option Token). IsSomeAnd o (λ t. may_end bytes t ≡ true)) (slice_get-get_or tokens i d h) last in
+EndsAt-false bytes tokens i depth d ends h is said isnt at =
+    let zero : (depth == 0) ≡ true = eq-eqb depth 0 (is ∙ at.0) in
+    let there = EndsAt-last bytes tokens i d h at in
     let both : (depth == 0 && may_end bytes (get_or tokens i d)) ≡ true = rw (zero, there) refl in
     cc
 

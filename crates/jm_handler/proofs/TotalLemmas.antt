@@ -1,14 +1,13 @@
 -- Each block says something.
 use Rattle.std.proofs.Common.{◌≡◌, ℕ, zero, suc, ◌+◌, ◌-◌, ◌<◌, ◌≤◌, ◌==◌, Bool, true, false, List, [], ◌∷◌, length, get_or, take, drop, Option, Some, None, refl, inl, inr, ⊎_elim, arith}
-use Rattle.std.specs.Prelude.{◌⊎◌, ◌&&◌, nat_le, codes, slice_range}
+use Rattle.std.specs.Prelude.{◌⊎◌, ◌&&◌, codes, slice_range}
 use Rattle.std.proofs.lemmas.List.{length-drop}
 use Rattle.jm_text.specs.declared.token.Token.{Token}
 use Rattle.jm_text.specs.Texts.{is_mark}
 use Rattle.jm_handler.specs.declared.term.Term.{Term}
 use Rattle.jm_handler.specs.Statements.{may_end, depth_of, EndsAt, IsStatement}
-use Rattle.jm_handler.specs.Terms.{term_of, AreMoreTerms, AreTerms, is_call, is_called, Prints}
+use Rattle.jm_handler.specs.Terms.{term_of, AreMoreTerms, AreTerms, AreNoTerms, is_call, Prints, PrintsNone}
 use Rattle.jm_handler.specs.Blocks.{Says}
-use Rattle.jm_handler.specs.Answers.{AreNoTerms, AreNoMoreTerms, PrintsNone}
 use Rattle.jm_handler.proofs.StatementLemmas.{EndsAt-true, EndsAt-false, IsStatement-at, none_before}
 use Rattle.jm_handler.proofs.TermLemmas.{default_token}
 use Rattle.jm_handler.proofs.BlockLemmas.{statement_first}
@@ -30,6 +29,9 @@ first_statement bytes tokens (suc left) i some whole before =
     (λ isnt. first_statement bytes tokens left (i + 1) some (omega arith) (none_before bytes tokens i before isnt)) (ends_or_not bytes tokens i (omega arith))
 
 -- ---- terms, or none
+abbrev AreNoMoreTerms : List ℕ → List (List ℕ) → List Token → Type 0
+AreNoMoreTerms bytes ps tokens = (terms : List Term) → AreMoreTerms bytes ps tokens terms → ⊥
+
 more_or_none : (bytes : List ℕ) (ps : List (List ℕ)) (tokens : List Token) → ((terms : List Term) × AreMoreTerms bytes ps tokens terms) ⊎ AreNoMoreTerms bytes ps tokens
 more_or_none bytes ps [] = inl ([], refl)
 more_or_none bytes ps (plus ∷ []) = inr (λ terms h. h)
@@ -53,18 +55,15 @@ terms_or_none bytes ps (t ∷ ts) = go (term_of bytes ps t) refl (more_or_none b
     go (Some x) i (inr none) = inr (λ terms (y, more, e, j, h). none more h)
     go None i rest = inr (λ terms (y, more, e, j, h). cc)
 
-not_both : (b : Bool) → b ≡ false → b ≡ true → ⊥
-not_both b f t = cc
-
 prints_or_not : (bytes : List ℕ) (ps : List (List ℕ)) (run : List Token) → ((terms : List Term) × Prints bytes ps run terms) ⊎ PrintsNone bytes ps run
-prints_or_not bytes ps run = go (nat_le 8 (length run) && is_call bytes run && is_called bytes run) refl (terms_or_none bytes ps (slice_range run 6 (length run - 2)))
+prints_or_not bytes ps run = go (is_call bytes run) refl (terms_or_none bytes ps (slice_range run 6 (length run - 2)))
   where
-    go : (v : Bool) → (nat_le 8 (length run) && is_call bytes run && is_called bytes run) ≡ v
+    go : (v : Bool) → is_call bytes run ≡ v
         → ((terms : List Term) × AreTerms bytes ps (slice_range run 6 (length run - 2)) terms) ⊎ AreNoTerms bytes ps (slice_range run 6 (length run - 2))
         → ((terms : List Term) × Prints bytes ps run terms) ⊎ PrintsNone bytes ps run
     go true is (inl (terms, are)) = inl (terms, record { form = is; called = are })
     go true is (inr none) = inr (λ terms prints. none terms prints.called)
-    go false is rest = inr (λ terms prints. not_both (nat_le 8 (length run) && is_call bytes run && is_called bytes run) is prints.form)
+    go false is rest = inr (λ terms prints. cc)
 
 -- ---- blocks
 pub says_something : (bytes : List ℕ) (ps : List (List ℕ)) (n : ℕ) (tokens : List Token) → length tokens ≤ n → (printed : List (List Term)) × Says bytes ps tokens printed

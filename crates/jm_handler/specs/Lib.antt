@@ -3,4 +3,3 @@ pub mod Terms
 pub mod Blocks
 pub mod Renderings
 pub mod Broken
-pub mod Answers

@@ -48,17 +48,13 @@ resolved (b ∷ []) = b ∷ []
 resolved (b ∷ c ∷ bs) = led_by (if b == backslash then escaped c else None) b (resolved bs) (resolved (c ∷ bs))
 
 -- ---- terms
--- the parameter whose name a token is, if it is one
-abbrev pub parameter_of : List ℕ → List (List ℕ) → Token → Option Term
-parameter_of bytes parameters token =
-    if is_name bytes token then option_map (λ p. Parameter p) (number_of parameters (text_of bytes token)) else None
-
 -- what a token is as a term, if it is one: a text in double quotes, the place, or the parameter that has its name
 abbrev pub term_of : List ℕ → List (List ℕ) → Token → Option Term
 term_of bytes parameters token =
     if is_quoted bytes token then Some (Literal (resolved (inside_of (text_of bytes token))))
     else if is_word bytes token (codes "__LOC") then Some Place
-    else parameter_of bytes parameters token
+    else if is_name bytes token then option_map (λ p. Parameter p) (number_of parameters (text_of bytes token))
+    else None
 
 -- the terms after a term, each with a `+` before it
 abbrev pub AreMoreTerms : List ℕ → List (List ℕ) → List Token → List Term → Type 0
@@ -75,21 +71,25 @@ AreTerms bytes parameters (t ∷ ts) terms =
     (term : Term) × (more : List Term) × (terms ≡ term ∷ more) × (term_of bytes parameters t ≡ Some term)
     × AreMoreTerms bytes parameters ts more
 
+-- the tokens aren't terms with a `+` between two
+abbrev pub AreNoTerms : List ℕ → List (List ℕ) → List Token → Type 0
+AreNoTerms bytes parameters tokens = (terms : List Term) → AreTerms bytes parameters tokens terms → ⊥
+
 -- ---- statements that print
--- the first tokens are `System.out.println(` or `System.err.println(`
+-- the first tokens are `System.out.println(` or `System.err.println(`, and the last are `);`
 abbrev pub is_call : List ℕ → List Token → Bool
 is_call bytes run =
-    is_word_at bytes run 0 (codes "System") && is_mark_at bytes run 1 (codes ".")
+    nat_le 8 (length run) && is_word_at bytes run 0 (codes "System") && is_mark_at bytes run 1 (codes ".")
     && (is_word_at bytes run 2 (codes "out") || is_word_at bytes run 2 (codes "err"))
     && is_mark_at bytes run 3 (codes ".")
     && is_word_at bytes run 4 (codes "println") && is_mark_at bytes run 5 (codes "(")
-
--- the last tokens are `);`
-abbrev pub is_called : List ℕ → List Token → Bool
-is_called bytes run =
-    is_mark_at bytes run (length run - 2) (codes ")") && is_mark_at bytes run (length run - 1) (codes ";")
+    && is_mark_at bytes run (length run - 2) (codes ")") && is_mark_at bytes run (length run - 1) (codes ";")
 
 -- the statement prints these terms: it is such a call of them
 pub record Prints (bytes : List ℕ) (parameters : List (List ℕ)) (run : List Token) (terms : List Term) : Type 0 where
-  pub form : (nat_le 8 (length run) && is_call bytes run && is_called bytes run) ≡ true
+  pub form : is_call bytes run ≡ true
   pub called : AreTerms bytes parameters (slice_range run 6 (length run - 2)) terms
+
+-- the statement prints no terms
+abbrev pub PrintsNone : List ℕ → List (List ℕ) → List Token → Type 0
+PrintsNone bytes parameters run = (terms : List Term) → Prints bytes parameters run terms → ⊥

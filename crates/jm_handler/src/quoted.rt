@@ -1,7 +1,7 @@
 //! Texts in double quotes.
-ghost use Rattle.std.specs.Prelude.{◌≡◌, ◌<◌, ◌≤◌, ◌==◌, ◌∷◌, drop, length, slice_index, IfOk};
+ghost use Rattle.std.specs.Prelude.{◌≡◌, ◌<◌, ◌≤◌, ◌∷◌, drop, length, IfOk};
 ghost use Rattle.jm_text.specs.Spans.{LiesWithin};
-ghost use Rattle.jm_handler.specs.Terms.{is_quoted, inside_of, escaped, resolved};
+ghost use Rattle.jm_handler.specs.Terms.{is_quoted, inside_of, resolved};
 
 use crate::term::Text;
 use jm_model::NoMemory;
@@ -13,16 +13,7 @@ pub(crate) fn is_quoted(bytes: &[u8], token: Token) -> bool
     requires { LiesWithin bytes.now token }
     ensures { result ≡ is_quoted bytes.now token }
 {
-    token.kind == TokenKind::Text && begins_with_quote(text(bytes, token))
-}
-
-fn begins_with_quote(text: &[u8]) -> bool
-    ensures { result ≡ (slice_index text.now 0 == 34) }
-{
-    match text {
-        [b'"', ..] => true,
-        _ => false,
-    }
+    token.kind == TokenKind::Text && text(bytes, token).starts_with(b"\"")
 }
 
 /// What stands between the quotes of a text.
@@ -57,22 +48,9 @@ fn first_of(bytes: &[u8]) -> (u8, usize)
     ensures fits { result.1 ≤ length bytes.now }
 {
     match bytes {
-        [b'\\', next, ..] => match escaped(*next) {
-            Some(byte) => (byte, 2),
-            None => (b'\\', 1),
-        },
+        [b'\\', b'n', ..] => (b'\n', 2),
+        [b'\\', b't', ..] => (b'\t', 2),
+        [b'\\', byte @ (b'"' | b'\'' | b'\\'), ..] => (*byte, 2),
         _ => (bytes[0], 1),
-    }
-}
-
-/// The byte that a backslash and this byte stand for, if they are an escape.
-fn escaped(byte: u8) -> Option<u8>
-    ensures { result ≡ escaped byte }
-{
-    match byte {
-        b'n' => Some(b'\n'),
-        b't' => Some(b'\t'),
-        b'"' | b'\'' | b'\\' => Some(byte),
-        _ => None,
     }
 }

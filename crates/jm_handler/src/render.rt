@@ -7,7 +7,7 @@ ghost use Rattle.jm_handler.specs.Renderings.{AreNamed, occasion, object_text, t
 ghost use Rattle.jm_handler.specs.Renderings.{statement_text, marked_lines, handler_text};
 
 use crate::handler::{Handler, Statement};
-use crate::page::{begin, end, number, text};
+use crate::page::{number, text};
 use crate::term::Term;
 use jm_events::Names;
 use jm_model::{Binding, NoMemory};
@@ -99,20 +99,11 @@ impl Occasion<'_> {
         ensures { OnOk result (page.new.items
             ≡ page.old.items ++ marked_lines (statement_text self.now statement.now)) }
     {
-        begin(page)?;
-        self.terms(page, statement.terms())?;
-        end(page)
-    }
-
-    /// Goes on with the terms of a statement.
-    fn terms(&self, page: &mut Vec<u8>, terms: &[Term]) -> Result<(), NoMemory>
-        requires { AreNamed self.now.objects self.now.instance }
-        ensures { OnOk result (page.new.items ≡ page.old.items ++ broken (statement_text self.now terms.now)) }
-    {
-        for term in terms {
+        page.extend_from_slice(b"  > ")?;
+        for term in statement.terms() {
             self.term(page, term)?;
         }
-        Ok(())
+        Ok(page.push(b'\n')?)
     }
 
     fn term(&self, page: &mut Vec<u8>, term: &Term) -> Result<(), NoMemory>
@@ -122,17 +113,12 @@ impl Occasion<'_> {
         match term {
             Term::Literal(literal) => text(page, literal.as_slice()),
             Term::Parameter(p) => text(page, self.object(*p)),
-            Term::Place => self.place(page),
+            Term::Place => {
+                number(page, self.caller)?;
+                page.push(b':')?;
+                number(page, self.line)
+            }
         }
-    }
-
-    /// The caller's number and the line.
-    fn place(&self, page: &mut Vec<u8>) -> Result<(), NoMemory>
-        ensures { OnOk result (page.new.items ≡ page.old.items ++ broken (term_text self.now Term.Place)) }
-    {
-        number(page, self.caller)?;
-        text(page, b":")?;
-        number(page, self.line)
     }
 
     /// The name of the object that a parameter is bound to.

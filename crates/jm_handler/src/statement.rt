@@ -1,7 +1,7 @@
 //! How far a statement of a block goes.
-ghost use Rattle.std.specs.Prelude.{◌≡◌, ◌==◌, ◌&&◌, ◌<◌, ◌-◌, ◌^◌, length};
+ghost use Rattle.std.specs.Prelude.{◌≡◌, ◌<◌, ◌-◌, ◌^◌, length};
 ghost use Rattle.jm_text.specs.Spans.{LiesWithin, LieWithin};
-ghost use Rattle.jm_handler.specs.Statements.{opens, closes, depth_behind, may_end, IsStatement};
+ghost use Rattle.jm_handler.specs.Statements.{depth_behind, may_end, IsStatement};
 
 use jm_text::{Token, is_mark};
 
@@ -14,7 +14,7 @@ pub(crate) fn statement_length(bytes: &[u8], tokens: &[Token]) -> usize
     let mut depth = 0;
     for (i, token) in tokens.iter().enumerate() {
         depth = depth_behind(bytes, depth, *token);
-        if ends(bytes, depth, *token) {
+        if depth == 0 && may_end(bytes, *token) {
             return i + 1;
         }
     }
@@ -27,33 +27,22 @@ fn depth_behind(bytes: &[u8], depth: usize, token: Token) -> usize
     requires bounded { depth < 2 ^ 64 - 1 }
     ensures { result ≡ depth_behind bytes.now depth token }
 {
-    if opens(bytes, token) {
+    if is_mark(bytes, token, b"(") || is_mark(bytes, token, b"[") || is_mark(bytes, token, b"{") {
         depth + 1
-    } else if closes(bytes, token) {
+    } else if is_mark(bytes, token, b")")
+        || is_mark(bytes, token, b"]")
+        || is_mark(bytes, token, b"}")
+    {
         depth.saturating_sub(1)
     } else {
         depth
     }
 }
 
-fn opens(bytes: &[u8], token: Token) -> bool
+/// Whether a statement ends with the token, where no bracket is open after it.
+fn may_end(bytes: &[u8], token: Token) -> bool
     requires { LiesWithin bytes.now token }
-    ensures { result ≡ opens bytes.now token }
+    ensures { result ≡ may_end bytes.now token }
 {
-    is_mark(bytes, token, b"(") || is_mark(bytes, token, b"[") || is_mark(bytes, token, b"{")
-}
-
-fn closes(bytes: &[u8], token: Token) -> bool
-    requires { LiesWithin bytes.now token }
-    ensures { result ≡ closes bytes.now token }
-{
-    is_mark(bytes, token, b")") || is_mark(bytes, token, b"]") || is_mark(bytes, token, b"}")
-}
-
-/// Whether a statement ends with the token, after which this number of brackets is open.
-fn ends(bytes: &[u8], depth: usize, token: Token) -> bool
-    requires { LiesWithin bytes.now token }
-    ensures { result ≡ (depth == 0 && may_end bytes.now token) }
-{
-    depth == 0 && (is_mark(bytes, token, b";") || is_mark(bytes, token, b"}"))
+    is_mark(bytes, token, b";") || is_mark(bytes, token, b"}")
 }

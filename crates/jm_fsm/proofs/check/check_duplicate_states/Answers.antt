@@ -1,6 +1,5 @@
 use Rattle.std.proofs.Common.{ℕ, ◌≡◌, ◌+◌, ◌<◌, true, false, ◌∷◌, List, Option, Some, length, drop, get_or, refl, sym, ap, ◌∙◌}
-use Rattle.std.proofs.lemmas.List.{drop_more, at_drop_all}
-use Rattle.std.proofs.lemmas.Result.{err_from_is_err_and}
+use Rattle.std.proofs.lemmas.List.{drop_more}
 use Rattle.jm_model.specs.declared.fault.SpecFault.{SpecFault}
 use Rattle.jm_model.specs.declared.fault.SpecFault.TheVariants.{DuplicateState}
 use Rattle.jm_text.specs.declared.token.Token.{Token}
@@ -9,6 +8,7 @@ use Rattle.jm_reading.specs.Names.{is_among}
 use Rattle.jm_reading.specs.Tokens.{name_of}
 use Rattle.jm_fsm.specs.declared.formula.Part.{Part}
 use Rattle.jm_fsm.specs.Faults.{name_token, duplicate_state_fault}
+use Rattle.jm_fsm.proofs.MadeLemmas.{found_among}
 use Rattle.jm_fsm.proofs.check.check_duplicate_states.Goals as goal
 
 module _ (bytes : List ℕ) (names : List (List ℕ)) (parts : List Part) (i : ℕ) (part : Part) (token : Token) (name : List ℕ) (whole : Option SpecFault)
@@ -34,20 +34,12 @@ module _ (bytes : List ℕ) (names : List (List ℕ)) (parts : List Part) (i : �
       let step : duplicate_state_fault bytes names (part ∷ drop (i + 1) parts) ≡ duplicate_state_fault bytes (with_name names (name_of bytes (name_token part))) (drop (i + 1) parts) = rw k refl in
       ap (λ (ns : List (List ℕ)). duplicate_state_fault bytes ns (drop (i + 1) parts)) (is ∙ ap (with_name names) is_named) ∙ sym step ∙ here
 
-pub returns-then-is_among : goal.returns-then-is_among
-returns-then-is_among c =
+pub returns-then-is_some : goal.returns-then-is_some
+returns-then-is_some c =
     rw c.into.ensures (duplicated c.args.bytes.now c.loop-part.names c.args.parts.now c.loop-part.part-index c.part-item.result c.name_token-token.result c.name_of-name.result.now _ c.loop-part-test.true c.part-item.is
-    c.name_token-token.ensures c.name_of-name.ensures c.loop-part.invariant (sym c.is_among.ensures ∙ c.if-is_among.true))
-
-pub returns-in_err-add_name : goal.returns-in_err-add_name
-returns-in_err-add_name c =
-    let p = err_from_is_err_and c.from_residual.result c.from_residual.ensures.1 in
-    rw (p.1, p.2, c.in_err-add_name.ensures.err) tt
+    c.name_token-token.ensures c.name_of-name.ensures c.loop-part.invariant (found_among c.loop-part.names c.name_of-name.result.now c.find.result c.is_some.result c.is_some.ensures c.find.ensures.value ∙ c.if-is_some.true))
 
 pub loop-part-preserved : goal.loop-part-preserved
 loop-part-preserved c =
     goes_on c.args.bytes.now c.loop-part.names c.args.parts.now c.loop-part.part-index c.part-item.result c.name_token-token.result c.name_of-name.result.now _ c.loop-part-test.true c.part-item.is
-    c.name_token-token.ensures c.name_of-name.ensures c.loop-part.invariant (sym c.is_among.ensures ∙ c.if-is_among.false) c.add_name.new.names c.in_ok-add_name.ensures.ok
-
-pub returns : goal.returns
-returns c = sym c.loop-part.invariant ∙ at_drop_all (duplicate_state_fault c.args.bytes.now c.loop-part.names) c.args.parts.now c.loop-part.part-index c.loop-part-test.false
+    c.name_token-token.ensures c.name_of-name.ensures c.loop-part.invariant (found_among c.loop-part.names c.name_of-name.result.now c.find.result c.is_some.result c.is_some.ensures c.find.ensures.value ∙ c.if-is_some.false) c.add_name.new.names c.in_ok-add_name.ensures.ok

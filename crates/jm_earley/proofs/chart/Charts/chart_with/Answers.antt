@@ -1,27 +1,41 @@
-use Rattle.std.proofs.Common.{ℕ, ◌<◌, ◌-◌, List, length, sym, subst, arith}
+use Rattle.std.proofs.Common.{ℕ, ◌-◌, List, length, refl, sym, subst, arith}
 use Rattle.std.proofs.lemmas.Option.{slice_get_within}
 use Rattle.jm_earley.specs.declared.item.Item.{Item}
-use Rattle.jm_earley.specs.Growth.{IsClosure}
-use Rattle.jm_earley.specs.Charts.{ChartsDefinition, IsPlaceWith}
+use Rattle.jm_earley.specs.declared.earley_set.EarleySet.{EarleySet}
+use Rattle.jm_earley.specs.Items.{IsItemSet}
+use Rattle.jm_earley.specs.AwaitIndex.{IsWaiting}
+use Rattle.jm_earley.specs.EarleySets.{AreEarlier, AreFutures}
+use Rattle.jm_earley.specs.Charts.{ChartsDefinition}
 use Rattle.jm_earley.proofs.chart.Charts.chart_with.Goals as goal
 
 pub followed_by-requires : goal.followed_by-requires
-followed_by-requires c = λ number p at. subst (λ (k : ℕ). p.position < k) (sym c.in_ok-place.ensures.position_is) (c.requires number p at)
+followed_by-requires c = c.requires
 
 pub invariant_of-result : goal.invariant_of-result
 invariant_of-result c =
     let places = c.in_ok-places.places in
-    omega (arith, slice_get_within places (length places - 1) c.in_ok-place.place c.in_ok-places.ensures.ends)
+    omega (arith, slice_get_within places (length places - 1) _ c.in_ok-places.ensures.ends)
 
 pub returns : goal.returns
-returns c = λ lists.
+returns c = λ are_waiting.
     let charts : ChartsDefinition = c.args.self.now in
     let earlier = c.args.earlier.now in
-    let place = c.in_ok-place.place in
-    let is = c.in_ok-place.ensures in
+    let items = c.in_ok-items.items in
+    let lists = c.in_ok-waiting.waiting in
+    let future = c.in_ok-futures.futures in
+    let place : EarleySet = record { position = c.args.position; items = items; waiting = lists; futures = future } in
+    let inside : (word : List ℕ) → IsItemSet c.self.inside.grammar word items → AreEarlier c.self.inside.grammar c.self.inside.dead.sets.items word earlier
+    → AreFutures c.self.inside.grammar c.self.inside.dead.sets.items word future =
+    λ word all are. c.in_ok-futures.ensures c.self.invariant.1.exact word (subst (λ (l : List Item). IsItemSet c.self.inside.grammar word l) (sym c.as_slice-2.ensures) all) are in
     record {
       place = place;
-      closure = subst (λ (l : List Item). IsClosure charts.grammar earlier c.args.position c.args.first l) (sym is.items_are) (c.in_ok-items.ensures lists);
-      place_is = subst (λ (l : List Item). IsPlaceWith charts earlier c.args.position l place) (sym is.items_are) is;
+      closure = c.in_ok-items.ensures are_waiting;
+      place_is = record {
+        position_is = refl;
+        items_are = refl;
+        waits = subst (λ (l : List Item). IsWaiting charts.grammar l lists) c.as_slice.ensures c.in_ok-waiting.ensures;
+        follows = subst (λ (d : ChartsDefinition). (word : List ℕ) → IsItemSet d.grammar word items → AreEarlier d.grammar d.letter_sets word earlier
+            → AreFutures d.grammar d.letter_sets word future) c.self.view_is inside;
+      };
       follows = c.in_ok-places.ensures;
     }

@@ -1,5 +1,5 @@
-use Rattle.std.proofs.Common.{◌≡◌, ◌++◌, ℕ, List, subst, ap, ◌∙◌}
-use Rattle.std.specs.Prelude.{OnOk}
+use Rattle.std.proofs.Common.{◌≡◌, ◌++◌, length, take, ap, ◌∙◌, arith}
+use Rattle.std.proofs.lemmas.List.{take_all}
 use Rattle.jm_handler.specs.Broken.{broken}
 use Rattle.jm_handler.specs.Renderings.{statement_text}
 use Rattle.jm_handler.proofs.RenderLemmas.{written_lines}
@@ -7,5 +7,7 @@ use Rattle.jm_handler.proofs.render.Occasion.statement.Goals as goal
 
 pub returns : goal.returns
 returns c =
-    let terms = c.in_ok-terms.ensures ∙ ap (λ t. c.begin.new.page.items ++ broken (statement_text c.args.self.now t)) c.terms.ensures in
-    subst (λ (t : List ℕ). OnOk c.end.result (c.end.new.page.items ≡ t)) (written_lines _ _ _ (statement_text c.args.self.now c.args.statement.now) c.in_ok-begin.ensures terms) c.end.ensures
+    let start = c.in_ok-extend_from_slice.ensures.items in
+    let whole : take c.loop-term.term-index c.args.statement.now ≡ c.args.statement.now = take_all _ _ (omega (arith, ap length c.terms-term-items.ensures, c.loop-term-test.false)) in
+    let terms = c.loop-term.invariant ∙ ap (λ t. c.extend_from_slice.new.self.items ++ broken (statement_text c.args.self.now t)) whole in
+    c.in_ok-push.ensures.items ∙ written_lines _ _ _ (statement_text c.args.self.now c.args.statement.now) start terms
