@@ -1,6 +1,6 @@
 //! A script of a workload.
-ghost use Rattle.std.specs.Prelude.{◌≡◌, ◌≤◌, ◌<◌, ◌++◌, decimal, string_bytes, IfOk, OnOk};
-ghost use Rattle.jm_gen.specs.Scripts.{object, step_line, create_line, round_over, passes_after, round_text, script_text, most_rounds};
+ghost use Rattle.std.specs.Prelude.{◌≡◌, ◌≤◌, ◌<◌, ◌++◌, string_bytes, IfOk, OnOk};
+ghost use Rattle.jm_gen.specs.Scripts.{object, step_line, round_over, round_text, script_text, most_rounds};
 
 use itoa::Buffer;
 use std::alloc::{AllocError, Global};
@@ -21,7 +21,7 @@ pub(crate) fn script(alloc: Global, number: u32, n: u32) -> Result<Vec<u8>, Allo
 }
 
 /// Adds a round, and the passes that follow it.
-#[tactic(auto, unfolding(crate::specs::Scripts::round_text))]
+#[tactic(auto, unfolding(crate::specs::Scripts::round_text, crate::specs::Scripts::passes_after))]
 fn add_round(alloc: Global, text: &mut String, number: u32, round: u32) -> Result<(), AllocError>
     requires { round < most_rounds }
     ensures { OnOk result (string_bytes text.new ≡ string_bytes text.old ++ round_text number round) }
@@ -29,7 +29,10 @@ fn add_round(alloc: Global, text: &mut String, number: u32, round: u32) -> Resul
     let collection = object(alloc, "c", number, round)?;
     let iterator = object(alloc, "i", number, round)?;
     add_steps(text, collection.as_str(), iterator.as_str())?;
-    add_passes(text, round)
+    if (round + 1) % ROUNDS_TO_A_PASS == 0 {
+        text.push_str("pass UnsafeIter\npass HasNext\n")?;
+    }
+    Ok(())
 }
 
 /// The name of an object of a round, after the letter of its kind.
@@ -38,19 +41,12 @@ fn object(alloc: Global, kind: &str, number: u32, round: u32) -> Result<String, 
     ensures { IfOk result (λ text. string_bytes text ≡ object kind.now number round) }
 {
     let mut text = String::new(alloc);
-    text.push_str(kind)?;
-    push_number(&mut text, number)?;
-    text.push_str("_")?;
-    push_number(&mut text, round)?;
-    Ok(text)
-}
-
-/// Adds a number, without leading zeros.
-fn push_number(text: &mut String, number: u32) -> Result<(), AllocError>
-    ensures { OnOk result (string_bytes text.new ≡ string_bytes text.old ++ decimal number) }
-{
     let mut buffer = Buffer::new();
-    text.push_str(buffer.format(number))
+    text.push_str(kind)?;
+    text.push_str(buffer.format(number))?;
+    text.push_str("_")?;
+    text.push_str(buffer.format(round))?;
+    Ok(text)
 }
 
 /// Adds the steps of a round over a collection and its iterator.
@@ -58,25 +54,16 @@ fn push_number(text: &mut String, number: u32) -> Result<(), AllocError>
 fn add_steps(text: &mut String, collection: &str, iterator: &str) -> Result<(), AllocError>
     ensures { OnOk result (string_bytes text.new ≡ string_bytes text.old ++ round_over collection.now iterator.now) }
 {
-    add_create(text, collection, iterator)?;
-    add_step(text, "UnsafeIter.update ", collection)?;
-    add_step(text, "UnsafeIter.next ", iterator)?;
-    add_step(text, "HasNext.next ", iterator)?;
-    add_step(text, "death ", iterator)?;
-    add_step(text, "death ", collection)?;
-    Ok(())
-}
-
-/// Adds the step that makes an iterator of a collection.
-#[tactic(auto, unfolding(crate::specs::Scripts::create_line))]
-fn add_create(text: &mut String, collection: &str, iterator: &str) -> Result<(), AllocError>
-    ensures { OnOk result (string_bytes text.new ≡ string_bytes text.old ++ create_line collection.now iterator.now) }
-{
     text.push_str("UnsafeIter.create ")?;
     text.push_str(collection)?;
     text.push_str(" ")?;
     text.push_str(iterator)?;
     text.push_str("\n")?;
+    add_step(text, "UnsafeIter.update ", collection)?;
+    add_step(text, "UnsafeIter.next ", iterator)?;
+    add_step(text, "HasNext.next ", iterator)?;
+    add_step(text, "death ", iterator)?;
+    add_step(text, "death ", collection)?;
     Ok(())
 }
 
@@ -88,16 +75,4 @@ fn add_step(text: &mut String, words: &str, object: &str) -> Result<(), AllocErr
     text.push_str(words)?;
     text.push_str(object)?;
     text.push_str("\n")
-}
-
-/// Adds a pass on each specification, where one follows the round.
-#[tactic(auto, unfolding(crate::specs::Scripts::passes_after))]
-fn add_passes(text: &mut String, round: u32) -> Result<(), AllocError>
-    requires { round < most_rounds }
-    ensures { OnOk result (string_bytes text.new ≡ string_bytes text.old ++ passes_after round) }
-{
-    if (round + 1) % ROUNDS_TO_A_PASS == 0 {
-        text.push_str("pass UnsafeIter\npass HasNext\n")?;
-    }
-    Ok(())
 }

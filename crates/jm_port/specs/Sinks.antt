@@ -26,6 +26,5 @@ abbrev pub after_put : MemoryText → Bool → List ℕ → MemoryText
 after_put t failed piece = record t {
   text = t.text ++ piece;
   calls = next_count t.calls;
-  faults = if failed
-      then next_count t.faults else t.faults;
+  faults = if failed then next_count t.faults else t.faults;
 }

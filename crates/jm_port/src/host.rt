@@ -6,7 +6,6 @@ ghost use Rattle.jm_port.specs.Faults.{HasRisen};
 use crate::folder::{Folder, LoadFault};
 use crate::sink::{PutFault, Sink};
 use std::fs::File;
-use std::io;
 use std::io::{ErrorKind, Read, Stderr};
 use std::marker::Model;
 use std::rt::Files;
@@ -45,35 +44,19 @@ impl<R: Files + AllocGlobal> Folder for HostFolder<R> {
         ensures counted { OnErr result (HasRisen self.old self.new) }
         ensures never_falls { self.old ≤ self.new }
     {
-        let loaded = read_within(&self.rt, name, limit);
-        if loaded.is_err() {
-            self.faults = self.faults.saturating_add(1);
-        }
-        loaded
+        // the file is read piece by piece, and no further than one byte past the limit
+        let most = (limit as u64).saturating_add(1);
+        let mut bytes = Vec::new(self.rt.alloc());
+        let read = File::open(&self.rt, name).and_then(|f| f.take(most).read_to_end(&mut bytes));
+        let fault = match read {
+            Ok(_) if bytes.len() <= limit => return Ok(bytes),
+            Ok(_) => LoadFault::TooLong,
+            Err(e) if e.kind() == ErrorKind::OutOfMemory => LoadFault::NoMemory,
+            Err(_) => LoadFault::Failed,
+        };
+        self.faults = self.faults.saturating_add(1);
+        Err(fault)
     }
-}
-
-/// The bytes of a file. It is read piece by piece, and no further than one byte past the limit.
-fn read_within<R: Files + AllocGlobal>(
-    rt: &R,
-    name: &str,
-    limit: usize,
-) -> Result<Vec<u8>, LoadFault>
-    ensures { IfOk result (λ bytes. length bytes.items ≤ limit) }
-{
-    match read_past(rt, name, (limit as u64).saturating_add(1)) {
-        Ok(bytes) if bytes.len() <= limit => Ok(bytes),
-        Ok(_) => Err(LoadFault::TooLong),
-        Err(e) if e.kind() == ErrorKind::OutOfMemory => Err(LoadFault::NoMemory),
-        Err(_) => Err(LoadFault::Failed),
-    }
-}
-
-/// The first bytes of a file: all, or as many as `most`.
-fn read_past<R: Files + AllocGlobal>(rt: &R, name: &str, most: u64) -> io::Result<Vec<u8>> {
-    let mut bytes = Vec::new(rt.alloc());
-    File::open(rt, name)?.take(most).read_to_end(&mut bytes)?;
-    Ok(bytes)
 }
 
 /// Standard output. Each `Err` raises the count of faults, and no put answers `NoMemory`.
@@ -112,27 +95,17 @@ impl<R: Print> Sink for HostSink<R> {
         ensures never_falls { self.old ≤ self.new }
         ensures takes_no_memory { result ≢ Err PutFault.NoMemory }
     {
-        match write_some(&self.rt, piece) {
-            Ok(n) if n > 0 || piece.is_empty() => Ok(n),
-            _ => {
-                self.faults = self.faults.saturating_add(1);
-                Err(PutFault::Failed)
+        for _ in 0..u64::MAX {
+            match self.rt.write_some(piece) {
+                // a signal broke in
+                Err(e) if e.kind() == ErrorKind::Interrupted => {}
+                Ok(n) if n > 0 || piece.is_empty() => return Ok(n),
+                _ => break,
             }
         }
+        self.faults = self.faults.saturating_add(1);
+        Err(PutFault::Failed)
     }
-}
-
-/// Writes some of the bytes, again where a signal broke in.
-fn write_some<R: Print>(rt: &R, piece: &[u8]) -> io::Result<usize>
-    ensures { IfOk result (λ n. n ≤ length piece.now) }
-{
-    for _ in 0..u64::MAX {
-        match rt.write_some(piece) {
-            Err(e) if e.kind() == ErrorKind::Interrupted => {}
-            written => return written,
-        }
-    }
-    Err(io::Error::from(ErrorKind::Interrupted))
 }
 
 /// Standard error. Each `Err` raises the count of faults, and no put answers `NoMemory`.

@@ -1,9 +1,8 @@
 //! Folders whose files are in memory.
-ghost use Rattle.std.specs.Prelude.{◌≡◌, ◌<◌, ◌≤◌, ◌↔◌, ◌⊎◌, ◌≢◌, [], true, false, length, Contains, IfOk, IfSome, IsNone, IsErrOf, unwrap_or, option_copied, Some};
+ghost use Rattle.std.specs.Prelude.{◌≡◌, ◌<◌, ◌≤◌, ◌↔◌, ◌⊎◌, ◌≢◌, [], true, false, length, Contains, IfOk, IfSome, IsNone, IsErrOf, unwrap_or, IsSomeAnd, Some};
 ghost use Rattle.jm_port.specs.Files.{held_by, after_load};
 
 use crate::folder::{Folder, LoadFault};
-use std::alloc::Global;
 use std::marker::Model;
 
 /// Files in memory by their names, seen as a list. The first of a name counts.
@@ -22,34 +21,25 @@ impl Model for Files {
 }
 
 impl Files {
-    /// The bytes of the first file of a name.
-    fn held(&self, name: &str) -> Option<&[u8]>
-        ensures { option_copied result ≡ held_by self.now name.now }
+    /// A copy of the bytes of the first file of a name, unless there are more than `limit`. It fails where there is none.
+    fn load(&self, name: &str, limit: usize) -> Result<Vec<u8>, LoadFault>
+        ensures whole { IfOk result (λ bytes. held_by self.now name.now ≡ Some bytes.items) }
+        ensures within { IfOk result (λ bytes. length bytes.items ≤ limit) }
+        ensures too_long { result ≡ Err LoadFault.TooLong
+            → IsSomeAnd (held_by self.now name.now) (λ held. limit < length held) }
+        ensures failed { result ≡ Err LoadFault.Failed → IsNone (held_by self.now name.now) }
+        ensures some { IsNone (held_by self.now name.now) → result ≡ Err LoadFault.Failed }
     {
         for file in &self.list {
             if file.0.as_str() == name {
-                return Some(file.1.as_slice());
+                if file.1.len() > limit {
+                    return Err(LoadFault::TooLong);
+                }
+                return Ok(file.1.to_vec(*self.list.allocator())?);
             }
         }
-        None
+        Err(LoadFault::Failed)
     }
-
-    fn allocator(&self) -> Global {
-        *self.list.allocator()
-    }
-}
-
-/// A copy of the bytes, unless there are more of them than `limit`.
-fn copy_within(alloc: Global, bytes: &[u8], limit: usize) -> Result<Vec<u8>, LoadFault>
-    ensures ok { IfOk result (λ copy. copy.items ≡ bytes.now) }
-    ensures within { IfOk result (λ _. length bytes.now ≤ limit) }
-    ensures too_long { IsErrOf result LoadFault.TooLong ↔ (limit < length bytes.now) }
-    ensures never_fails { result ≢ Err LoadFault.Failed }
-{
-    if bytes.len() > limit {
-        return Err(LoadFault::TooLong);
-    }
-    Ok(bytes.to_vec(alloc)?)
 }
 
 /// Files in memory, some of whose loads fail, so that a caller's failures can be tried.
@@ -108,13 +98,15 @@ impl Folder for MemoryFolder {
     {
         let call = self.calls;
         self.calls = call.saturating_add(1);
-        if !self.fail.contains(&call) {
-            if let Some(bytes) = self.files.held(name) {
-                return copy_within(self.files.allocator(), bytes, limit);
-            }
+        let loaded = if self.fail.contains(&call) {
+            Err(LoadFault::Failed)
+        } else {
+            self.files.load(name, limit)
+        };
+        if let Err(LoadFault::Failed) = loaded {
+            self.faults = self.faults.saturating_add(1);
         }
-        self.faults = self.faults.saturating_add(1);
-        Err(LoadFault::Failed)
+        loaded
     }
 }
 
@@ -152,10 +144,9 @@ impl Folder for SureFolder {
     ghost faults = { λ _. 0 };
 
     fn load(&mut self, name: &str, limit: usize) -> Result<Vec<u8>, LoadFault> {
-        let alloc = self.files.allocator();
-        match self.files.held(name) {
-            Some(bytes) => copy_within(alloc, bytes, limit),
-            None => Ok(Vec::new(alloc)),
+        match self.files.load(name, limit) {
+            Err(LoadFault::Failed) => Ok(Vec::new(*self.files.list.allocator())),
+            loaded => loaded,
         }
     }
 }

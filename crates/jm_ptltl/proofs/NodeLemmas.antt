@@ -6,7 +6,27 @@ use Rattle.jm_ptltl.specs.declared.formula.Binary.TheVariants.{Implies}
 use Rattle.jm_ptltl.specs.declared.formula.Node.{Node}
 use Rattle.jm_ptltl.specs.declared.formula.Node.TheVariants.{Prefix, Infix}
 use Rattle.jm_ptltl.specs.Formulas.{Formula, unary, postfix}
-use Rattle.jm_ptltl.specs.Rules.{behind_all, closing, grouped, postfix_all, ends_of}
+use Rattle.jm_ptltl.specs.Rules.{grouped}
+
+-- the nodes of these operators, the last of them first
+abbrev pub behind_all : List Unary → List (Node Token)
+behind_all [] = []
+behind_all (op ∷ ops) = behind_all ops ++ Prefix op ∷ []
+
+-- the nodes of `=>`, the last of them first: their right parts begin at these places, and so many nodes stand before
+abbrev pub closing : List ℕ → ℕ → List (Node Token)
+closing [] count = []
+closing (start ∷ starts) count = closing starts count ++ Infix Implies (count + length starts - start) ∷ []
+
+-- the nodes of formulas one after the other
+abbrev pub postfix_all : List (Formula Token) → List (Node Token)
+postfix_all [] = []
+postfix_all (f ∷ fs) = postfix f ++ postfix_all fs
+
+-- where each of them ends, after so many nodes
+abbrev pub ends_of : ℕ → List (Formula Token) → List ℕ
+ends_of base [] = []
+ends_of base (f ∷ fs) = (base + length (postfix f)) ∷ ends_of (base + length (postfix f)) fs
 
 abbrev only : Node Token → List (Node Token)
 only x = x ∷ []

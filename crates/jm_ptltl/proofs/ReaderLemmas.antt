@@ -16,10 +16,19 @@ use Rattle.jm_ptltl.specs.declared.lexicon.Class.TheVariants.{Prefix, Infix, Con
 use Rattle.jm_ptltl.specs.Formulas.{Formula, event, constant, postfix}
 use Rattle.jm_ptltl.specs.Lexicon.{class_of}
 use Rattle.jm_ptltl.specs.Answers.{AddsNodes, Adds, AddsBy}
-use Rattle.jm_ptltl.specs.Rules.{Read, Chain, class_at, is_prefix, begins, closed_at, atom_by, atom_at, over, over_all, operand_by, operand_at, join_at, more_at, grouped, skip_at, imply_at, group, implied_at, part_at, inside_at, formula_from, at_end, formula_at, behind_all, closing, postfix_all, ends_of}
-use Rattle.jm_ptltl.proofs.NodeLemmas.{unary_all, postfix-unary_all, postfix-grouped, postfix_all-push, ends_of-push}
+use Rattle.jm_ptltl.specs.Rules.{Read, Chain, class_at, begins, closed_at, atom_by, atom_at, over, operand_by, operand_at, join_at, more_at, grouped, skip_at, imply_at, group, implied_at, part_at, inside_at, formula_from, at_end, formula_at}
+use Rattle.jm_ptltl.proofs.NodeLemmas.{behind_all, closing, postfix_all, ends_of, unary_all, postfix-unary_all, postfix-grouped, postfix_all-push, ends_of-push}
 
 -- ---- operators of one part
+
+abbrev pub is_prefix : Class → Bool
+is_prefix (Prefix op) = true
+is_prefix _ = false
+
+-- operators over what was read
+abbrev pub over_all : List Unary → Option Read → Option Read
+over_all [] read = read
+over_all (op ∷ ops) read = over op (over_all ops read)
 
 pub prefix_more : (bytes : List ℕ) (rest : List Token) (op : Unary) (inner : List Token → Option Read) → class_at bytes rest ≡ Prefix op → operand_at bytes inner rest ≡ over op (operand_at bytes inner (drop 1 rest))
 prefix_more bytes [] op inner h = absurd (cc)
@@ -40,6 +49,15 @@ over_all_some (op ∷ ops) f left = ap (λ r. over op r) (over_all_some ops f le
 over_all_none : (ops : List Unary) → over_all ops None ≡ None
 over_all_none [] = refl
 over_all_none (op ∷ ops) = ap (λ r. over op r) (over_all_none ops)
+
+pub other_than_prefix : (c : Class) → ((op : Unary) → c ≡ Prefix op → ⊥) → is_prefix c ≡ false
+other_than_prefix (Prefix op) h = absurd (h op refl)
+other_than_prefix (Infix op) h = refl
+other_than_prefix (Constant b) h = refl
+other_than_prefix Name h = refl
+other_than_prefix Open h = refl
+other_than_prefix Close h = refl
+other_than_prefix Other h = refl
 
 -- where no operator of one part stands, an atom is read
 no_prefix : (c : Class) (behind here : Option Read) → is_prefix c ≡ false → operand_by c behind here ≡ here
@@ -242,6 +260,12 @@ part_end bytes inner (suc k) = rw (part_end bytes inner k) refl
 pub skip_adds : (bytes : List ℕ) (k : ℕ) {X : Type 0} (r : Result X SpecError) (before after : List (Node Token)) (tokens left : List Token) → AddsBy bytes (λ inner. part_at bytes inner k) r before after (drop 1 tokens) left → AddsBy bytes (λ inner. skip_at (part_at bytes inner k)) r before after tokens left
 skip_adds bytes k r before after [] left h n few = subst (λ read. Adds r before after left read) (part_end bytes (formula_from bytes n) k) (h n few)
 skip_adds bytes k r before after (t ∷ ts) left h n few = h n (omega (arith, few))
+
+-- a formula after a token that is skipped
+pub after_skip : (bytes here : List ℕ) (k : ℕ) (same : here ≡ bytes) {X : Type 0} (r : Result X SpecError) (before after : List (Node Token)) (tokens skipped left : List Token) → skipped ≡ drop 1 tokens → AddsBy here (λ inner. part_at here inner k) r before after skipped left → AddsBy bytes (λ inner. skip_at (part_at bytes inner k)) r before after tokens left
+after_skip bytes here k same r before after tokens skipped left cut h =
+    skip_adds bytes k r before after tokens left
+    (subst (λ (l : List Token). AddsBy bytes (λ inner. part_at bytes inner k) r before after l left) cut (by_at (λ b inner. part_at b inner k) here bytes same r before after skipped left h))
 
 pub not_four : (rank : ℕ) → (rank ≡ 5 → ⊥) → 0 < rank → eqb (rank - 1) 4 ≡ false
 not_four rank other some = elim (eqb_tells (rank - 1) 4) [ inl same ↦ absurd (other (omega (arith, same.1, some))) | inr differs ↦ differs.0 ]

@@ -1,14 +1,12 @@
 -- What each rule of the grammar reads at the front of a list of tokens, where the next token decides.
-use Rattle.std.specs.Prelude.{ℕ, zero, suc, ◌+◌, ◌-◌, ◌==◌, Bool, true, false, List, [], ◌∷◌, ◌++◌, length, Option, Some, None, if◌then◌else◌}
+use Rattle.std.specs.Prelude.{ℕ, zero, suc, ◌==◌, Bool, false, List, [], ◌∷◌, ◌++◌, length, Option, Some, None, if◌then◌else◌}
 use Rattle.jm_model.specs.Words.{Text}
 use Rattle.jm_text.specs.declared.token.Token.{Token}
 use Rattle.jm_ptltl.specs.declared.formula.Unary.{Unary}
 use Rattle.jm_ptltl.specs.declared.formula.Binary.TheVariants.{Implies}
-use Rattle.jm_ptltl.specs.declared.formula.Node.{Node}
-use Rattle.jm_ptltl.specs.declared.formula.Node.TheVariants as node
 use Rattle.jm_ptltl.specs.declared.lexicon.Class.{Class}
 use Rattle.jm_ptltl.specs.declared.lexicon.Class.TheVariants.{Prefix, Infix, Constant, Name, Open, Close, Other}
-use Rattle.jm_ptltl.specs.Formulas.{Formula, event, constant, unary, binary, postfix}
+use Rattle.jm_ptltl.specs.Formulas.{Formula, event, constant, unary, binary}
 use Rattle.jm_ptltl.specs.Lexicon.{class_of, rank_of}
 use Rattle.jm_reading.specs.Reading.{◌>>=◌, at_most}
 
@@ -21,10 +19,6 @@ abbrev pub Reader : Type 0
 Reader = List Token → Option Read
 
 -- what the class of a token decides
-
-abbrev pub is_prefix : Class → Bool
-is_prefix (Prefix op) = true
-is_prefix _ = false
 
 abbrev pub is_infix : ℕ → Class → Bool
 is_infix rank (Infix op) = rank_of op == rank
@@ -43,10 +37,6 @@ atom_by _ t inside ts = None
 -- an operator over what was read
 abbrev pub over : Unary → Option Read → Option Read
 over op read = read >>= λ r. Some (unary op r.0, r.1)
-
-abbrev pub over_all : List Unary → Option Read → Option Read
-over_all [] read = read
-over_all (op ∷ ops) read = over op (over_all ops read)
 
 abbrev pub operand_by : Class → Option Read → Option Read → Option Read
 operand_by (Prefix op) behind here = over op behind
@@ -139,25 +129,3 @@ at_end (f, t ∷ ts) = None
 
 abbrev pub formula_at : Text → List Token → Option (Formula Token)
 formula_at bytes tokens = part_at bytes (formula_from bytes (length tokens)) 6 tokens >>= at_end
-
--- How a list of nodes grows.
-
--- the nodes of these operators, the last of them first
-abbrev pub behind_all : List Unary → List (Node Token)
-behind_all [] = []
-behind_all (op ∷ ops) = behind_all ops ++ node.Prefix op ∷ []
-
--- the nodes of `=>`, the last of them first: their right parts begin at these places, and so many nodes stand before
-abbrev pub closing : List ℕ → ℕ → List (Node Token)
-closing [] count = []
-closing (start ∷ starts) count = closing starts count ++ node.Infix Implies (count + length starts - start) ∷ []
-
--- the nodes of formulas one after the other
-abbrev pub postfix_all : List (Formula Token) → List (Node Token)
-postfix_all [] = []
-postfix_all (f ∷ fs) = postfix f ++ postfix_all fs
-
--- where each of them ends, after so many nodes
-abbrev pub ends_of : ℕ → List (Formula Token) → List ℕ
-ends_of base [] = []
-ends_of base (f ∷ fs) = (base + length (postfix f)) ∷ ends_of (base + length (postfix f)) fs

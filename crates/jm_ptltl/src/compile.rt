@@ -1,6 +1,5 @@
-ghost use Rattle.std.specs.Prelude.{◌≡◌, ◌<◌, ◌≤◌, ◌↔◌, ◌⊎◌, IsTrue, Err, IfOk, IfErr, OnOk, length};
-ghost use Rattle.jm_ptltl.specs.Vectors.{Says, HasGroup};
-ghost use Rattle.jm_ptltl.specs.Formulas.{postfix};
+ghost use Rattle.std.specs.Prelude.{◌≡◌, ◌<◌, ◌≤◌, ◌⊎◌, Err, IfOk, IfErr, OnOk, length};
+ghost use Rattle.jm_ptltl.specs.Vectors.{HasGroup};
 ghost use Rattle.jm_ptltl.specs.Tables.{HasStates, IsCompiled, IsCrowded};
 ghost use Rattle.jm_table.specs.Explorations.{most_states};
 ghost use Rattle.jm_table.specs.Tables.{most_groups};
@@ -35,7 +34,8 @@ impl Past {
     }
 }
 
-/// Adds the group of the states at which the bit of a place says `truth`, to a table whose states have these nodes.
+/// Adds the group of the states at which the bit of a place says `truth`, to a table whose states have these nodes. At
+/// the start none does.
 fn add_group(
     alloc: Global,
     nodes: &[Option<u64>],
@@ -51,18 +51,10 @@ fn add_group(
     ensures bounded { table.old.states ≤ most_states }
     ensures fault { IfErr result (λ e. e ≡ SpecError.NoMemory) }
 {
-    let members = places(alloc, nodes, move |node| says(*node, place, truth))?;
-    table.add_group(members.as_slice())?;
-    Ok(())
-}
-
-/// Whether the bit of a place says `truth`. At the start none does.
-fn says(node: Option<u64>, place: usize, truth: bool) -> bool
-    requires { place < 64 }
-    ensures { IsTrue result ↔ Says place truth node }
-{
-    match node {
+    let members = places(alloc, nodes, move |node| match *node {
         Some(vector) => has_bit(vector, place) == truth,
         None => false,
-    }
+    })?;
+    table.add_group(members.as_slice())?;
+    Ok(())
 }

@@ -1,5 +1,5 @@
 //! What a token is in a formula.
-ghost use Rattle.std.specs.Prelude.{◌≡◌, ◌<◌, ◌≤◌};
+ghost use Rattle.std.specs.Prelude.{◌≡◌, ◌<◌};
 ghost use Rattle.std.specs.Str.{bytes_eq};
 ghost use Rattle.jm_text.specs.Spans.{LiesWithin};
 ghost use Rattle.jm_text.specs.Texts.{is_name_text};
@@ -43,39 +43,29 @@ impl Binary {
     }
 }
 
+fn class_of_mark(mark: &[u8]) -> Class
+    ensures { result ≡ class_of_mark mark.now }
+{
+    match mark {
+        b"!" => Class::Prefix(Unary::Not),
+        b"[*]" => Class::Prefix(Unary::Historically),
+        b"<*>" => Class::Prefix(Unary::Once),
+        b"(*)" => Class::Prefix(Unary::Previously),
+        b"<=>" => Class::Infix(Binary::Equivalent),
+        b"=>" => Class::Infix(Binary::Implies),
+        b"||" => Class::Infix(Binary::Or),
+        b"&&" => Class::Infix(Binary::And),
+        b"(" => Class::Open,
+        b")" => Class::Close,
+        _ => Class::Other,
+    }
+}
+
 /// Whether the bytes are these.
 fn is(bytes: &[u8], these: &[u8]) -> bool
     ensures { result ≡ bytes_eq bytes.now these.now }
 {
     bytes == these
-}
-
-fn class_of_mark(mark: &[u8]) -> Class
-    ensures { result ≡ class_of_mark mark.now }
-{
-    if is(mark, b"!") {
-        Class::Prefix(Unary::Not)
-    } else if is(mark, b"[*]") {
-        Class::Prefix(Unary::Historically)
-    } else if is(mark, b"<*>") {
-        Class::Prefix(Unary::Once)
-    } else if is(mark, b"(*)") {
-        Class::Prefix(Unary::Previously)
-    } else if is(mark, b"<=>") {
-        Class::Infix(Binary::Equivalent)
-    } else if is(mark, b"=>") {
-        Class::Infix(Binary::Implies)
-    } else if is(mark, b"||") {
-        Class::Infix(Binary::Or)
-    } else if is(mark, b"&&") {
-        Class::Infix(Binary::And)
-    } else if is(mark, b"(") {
-        Class::Open
-    } else if is(mark, b")") {
-        Class::Close
-    } else {
-        Class::Other
-    }
 }
 
 /// The class of a word, which is a name or not.

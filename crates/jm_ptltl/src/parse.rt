@@ -1,13 +1,13 @@
 //! A reader over the tokens of a formula. Each rule of the grammar is a function, which takes the tokens that the rule
 //! spells from the front of those that are left, and adds the formula's nodes to a list.
-ghost use Rattle.std.specs.Prelude.{ℕ, ◌≡◌, ◌≢◌, ◌<◌, ◌≤◌, ◌+◌, ◌-◌, ◌++◌, ◌∷◌, [], List, length, drop, false, OnOk, IfOk, IfErr, Option};
+ghost use Rattle.std.specs.Prelude.{◌≡◌, ◌≢◌, ◌<◌, ◌≤◌, ◌+◌, ◌-◌, ◌++◌, [], List, length, drop, false, OnOk};
 ghost use Rattle.jm_text.specs.declared.token.Token.{Token};
 ghost use Rattle.jm_ptltl.specs.declared.formula.Node.{Node};
 ghost use Rattle.jm_ptltl.specs.Formulas.{Formula, postfix};
 ghost use Rattle.jm_ptltl.specs.Answers.{Takes, Gives};
-ghost use Rattle.jm_ptltl.specs.Rules.{Read, class_at, is_prefix, begins, operand_at, atom_at, over_all, join_at, skip_at, part_at, inside_at, formula_at, behind_all, closing};
+ghost use Rattle.jm_ptltl.specs.Rules.{class_at, begins, operand_at, atom_at, join_at, part_at, inside_at, formula_at};
 
-use crate::formula::{Binary, Node, Unary};
+use crate::formula::{Binary, Node};
 use crate::lexicon::{Class, class_of};
 use jm_model::SpecError;
 use jm_reading::{Cursor, Items};
@@ -45,47 +45,6 @@ fn begins(cursor: &Cursor, rank: u8) -> bool
         Class::Infix(op) => op.rank() == rank,
         _ => false,
     }
-}
-
-/// All operators of one part that stand here, in order.
-fn prefixes(cursor: &mut Cursor) -> Result<Vec<Unary>, SpecError>
-    ensures reads { (inner : List Token → Option Read)
-        → IfOk result (λ ops. operand_at cursor.old.bytes.now inner cursor.old.rest.now
-        ≡ over_all ops.items (operand_at cursor.old.bytes.now inner cursor.new.rest.now)) }
-    ensures end { OnOk result (is_prefix (class_at cursor.new.bytes.now cursor.new.rest.now) ≡ false) }
-    ensures bytes { cursor.new.bytes.now ≡ cursor.old.bytes.now }
-    ensures left { length cursor.new.rest.now ≤ length cursor.old.rest.now }
-    ensures fault { IfErr result (λ e. e ≡ SpecError.NoMemory) }
-{
-    let mut ops = Vec::new(cursor.alloc);
-    while let Class::Prefix(op) = class(cursor) {
-        skip(cursor);
-        ops.push(op)?;
-    }
-    Ok(ops)
-}
-
-/// Adds the nodes of operators over a formula, whose nodes are the last.
-fn apply(mut ops: Vec<Unary>, nodes: &mut Items<Node<Token>>) -> Result<(), SpecError>
-    ensures ok { OnOk result (nodes.new ≡ nodes.old ++ behind_all ops.items) }
-    ensures err { IfErr result (λ e. e ≡ SpecError.NoMemory) }
-{
-    while let Some(op) = ops.pop() {
-        nodes.push(Node::Prefix(op))?;
-    }
-    Ok(())
-}
-
-/// Adds the nodes of `=>` whose right parts begin at these places.
-fn close(mut starts: Vec<usize>, nodes: &mut Items<Node<Token>>) -> Result<(), SpecError>
-    ensures ok { OnOk result (nodes.new ≡ nodes.old ++ closing starts.items (length nodes.old)) }
-    ensures err { IfErr result (λ e. e ≡ SpecError.NoMemory) }
-{
-    while let Some(start) = starts.pop() {
-        let right = nodes.as_slice().len().saturating_sub(start);
-        nodes.push(Node::Infix(Binary::Implies, right))?;
-    }
-    Ok(())
 }
 
 /// A formula of a rank.
@@ -153,27 +112,15 @@ fn implications(cursor: &mut Cursor, nodes: &mut Items<Node<Token>>) -> Result<(
     let mut starts = Vec::new(cursor.alloc);
     part(cursor, IMPLIES - 1, nodes)?;
     while begins(cursor, IMPLIES) {
-        imply(cursor, &mut starts, nodes)?;
+        skip(cursor);
+        starts.push(nodes.as_slice().len())?;
+        part(cursor, IMPLIES - 1, nodes)?;
     }
-    close(starts, nodes)
-}
-
-/// An operator `=>` and the part after it, which begins at the last of the places.
-#[cycle(formula)]
-fn imply(
-    cursor: &mut Cursor,
-    starts: &mut Vec<usize>,
-    nodes: &mut Items<Node<Token>>,
-) -> Result<(), SpecError>
-    ensures reads { Takes cursor.old result cursor.new
-        (λ bytes inner. skip_at (part_at bytes inner 4)) nodes.old nodes.new }
-    ensures starts { OnOk result (starts.new.items ≡ starts.old.items ++ length nodes.old ∷ []) }
-    ensures bytes { cursor.new.bytes.now ≡ cursor.old.bytes.now }
-    ensures left { OnOk result (length cursor.new.rest.now < length cursor.old.rest.now) }
-{
-    skip(cursor);
-    starts.push(nodes.as_slice().len())?;
-    part(cursor, IMPLIES - 1, nodes)
+    while let Some(start) = starts.pop() {
+        let right = nodes.as_slice().len().saturating_sub(start);
+        nodes.push(Node::Infix(Binary::Implies, right))?;
+    }
+    Ok(())
 }
 
 /// Operators of one part, and an atom.
@@ -183,9 +130,16 @@ fn operand(cursor: &mut Cursor, nodes: &mut Items<Node<Token>>) -> Result<(), Sp
     ensures bytes { cursor.new.bytes.now ≡ cursor.old.bytes.now }
     ensures left { OnOk result (length cursor.new.rest.now < length cursor.old.rest.now) }
 {
-    let ops = prefixes(cursor)?;
+    let mut ops = Vec::new(cursor.alloc);
+    while let Class::Prefix(op) = class(cursor) {
+        skip(cursor);
+        ops.push(op)?;
+    }
     atom(cursor, nodes)?;
-    apply(ops, nodes)
+    while let Some(op) = ops.pop() {
+        nodes.push(Node::Prefix(op))?;
+    }
+    Ok(())
 }
 
 /// An event, `true`, `false`, or a formula in parentheses.

@@ -1,6 +1,6 @@
 ghost use Rattle.std.specs.Prelude.{◌≡◌, ◌≤◌, length, IfOk};
 ghost use Rattle.jm_ptltl.specs.Categories.{category_names};
-ghost use Rattle.jm_ptltl.specs.Formulas.{postfix, formula_of};
+ghost use Rattle.jm_ptltl.specs.Formulas.{postfix};
 
 use crate::formula::Node;
 use jm_events::Names;
@@ -12,7 +12,7 @@ use std::marker::Model;
 #[derive(Drop)]
 pub struct Past {
     /// The subformulas, each after its parts.
-    nodes: Vec<Node<Letter>>,
+    pub(crate) nodes: Vec<Node<Letter>>,
 }
 
 impl Model for Past {
@@ -31,15 +31,6 @@ impl Model for Past {
 }
 
 impl Past {
-    /// The formula of these nodes.
-    pub(crate) fn new(nodes: Vec<Node<Letter>>) -> Past
-        requires formula { postfix (formula_of nodes.items) ≡ nodes.items }
-        requires bounded { length nodes.items ≤ 64 }
-        ensures { result ≡ formula_of nodes.items }
-    {
-        Past { nodes }
-    }
-
     /// The names of the categories: `validation` and `violation`. The number of a name is the category's group in the
     /// compiled table.
     pub fn categories(&self, alloc: Global) -> Result<Names, NoMemory>

@@ -1,9 +1,9 @@
 //! The formula over letters that a formula says.
-ghost use Rattle.std.specs.Prelude.{◌≡◌, ◌≤◌, ◌∷◌, ◌++◌, [], length, OnOk, IfOk, IfErr};
+ghost use Rattle.std.specs.Prelude.{◌≡◌, [], IfOk};
 ghost use Rattle.jm_text.specs.declared.token.Token.{Token};
 ghost use Rattle.jm_events.specs.Events.{event_names};
 ghost use Rattle.jm_ptltl.specs.Formulas.{Formula, postfix};
-ghost use Rattle.jm_ptltl.specs.Faults.{formula_said, node_said, with_node, first_fault};
+ghost use Rattle.jm_ptltl.specs.Faults.{formula_said, with_node, first_fault};
 ghost use Rattle.jm_reading.specs.Faults.{Answers, Checks, with_each};
 
 use crate::check::Words;
@@ -17,21 +17,7 @@ use std::alloc::Global;
 
 const MAX_SUBFORMULAS: usize = 64;
 
-/// The node over letters that a node says.
-fn node_of(bytes: &[u8], table: &EventTable, node: Node<Token>) -> Result<Node<Letter>, SpecError>
-    ensures { Answers result (node_said bytes.now (event_names table.now) node) }
-{
-    match node {
-        Node::Event(token) => {
-            let letter = letter_of(bytes, table, token)?;
-            Ok(Node::Event(letter))
-        }
-        Node::Constant(truth) => Ok(Node::Constant(truth)),
-        Node::Prefix(op) => Ok(Node::Prefix(op)),
-        Node::Infix(op, right) => Ok(Node::Infix(op, right)),
-    }
-}
-
+/// The nodes over letters that nodes say.
 fn nodes_of(
     alloc: Global,
     bytes: &[u8],
@@ -42,8 +28,12 @@ fn nodes_of(
 {
     let mut said = Items::new(alloc);
     for node in nodes {
-        let node = node_of(bytes, table, *node)?;
-        said.push(node)?;
+        said.push(match *node {
+            Node::Event(token) => Node::Event(letter_of(bytes, table, token)?),
+            Node::Constant(truth) => Node::Constant(truth),
+            Node::Prefix(op) => Node::Prefix(op),
+            Node::Infix(op, right) => Node::Infix(op, right),
+        })?;
     }
     Ok(said)
 }
@@ -66,5 +56,7 @@ pub fn past_of(
     }
     check_event_names::<Words>(table)?;
     let said = nodes_of(alloc, bytes, table, nodes)?;
-    Ok(Past::new(said.into_vec()))
+    Ok(Past {
+        nodes: said.into_vec(),
+    })
 }

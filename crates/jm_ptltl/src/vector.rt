@@ -1,6 +1,6 @@
 //! The truth of all subformulas at the last position, as bits of a number, and how a letter changes it.
-ghost use Rattle.std.specs.Prelude.{◌≡◌, ◌<◌, ◌≤◌, ◌+◌, ◌-◌, length};
-ghost use Rattle.jm_ptltl.specs.Vectors.{has_bit, with_bit, was, unary_truth, binary_truth, node_truth, vector_from};
+ghost use Rattle.std.specs.Prelude.{◌≡◌, ◌<◌, ◌≤◌, length};
+ghost use Rattle.jm_ptltl.specs.Vectors.{has_bit, was, node_truth, vector_from};
 
 use crate::formula::{Binary, Node, Unary};
 use jm_model::Letter;
@@ -13,15 +13,6 @@ pub fn has_bit(vector: u64, place: usize) -> bool
     vector >> place & 1 == 1
 }
 
-/// Sets the bit of a place, where `bit` says so.
-#[tactic(auto, unfolding(crate::specs::Vectors::with_bit))]
-fn with_bit(vector: u64, place: usize, bit: bool) -> u64
-    requires { place < 64 }
-    ensures { result ≡ with_bit vector place bit }
-{
-    if bit { vector | 1 << place } else { vector }
-}
-
 /// The bit of a place in the last vector, or `before` at the start.
 fn was(last: Option<u64>, place: usize, before: bool) -> bool
     requires { place < 64 }
@@ -30,34 +21,6 @@ fn was(last: Option<u64>, place: usize, before: bool) -> bool
     match last {
         Some(vector) => has_bit(vector, place),
         None => before,
-    }
-}
-
-/// The truth of an operator at this place, from that of its part now, and from the last vector.
-fn unary_truth(op: Unary, last: Option<u64>, place: usize, part: bool) -> bool
-    requires { place < 64 }
-    ensures { result ≡ unary_truth op last place part }
-{
-    match op {
-        Unary::Not => !part,
-        Unary::Historically => part && was(last, place, true),
-        Unary::Once => part || was(last, place, false),
-        Unary::Previously => was(last, place.saturating_sub(1), false),
-    }
-}
-
-/// The truth of an operator at this place, from that of its parts now, and from the last vector.
-fn binary_truth(op: Binary, last: Option<u64>, place: usize, left: bool, right: bool) -> bool
-    requires { place < 64 }
-    ensures { result ≡ binary_truth op last place left right }
-{
-    match op {
-        Binary::Equivalent => left == right,
-        Binary::Implies => !left || right,
-        Binary::Or => left || right,
-        Binary::Xor => left != right,
-        Binary::And => left && right,
-        Binary::Since => right || (left && was(last, place, false)),
     }
 }
 
@@ -76,24 +39,42 @@ fn node_truth(
     match node {
         Node::Event(event) => event.0 == letter.0,
         Node::Constant(truth) => truth,
-        Node::Prefix(op) => unary_truth(op, last, place, has_bit(next, before)),
+        Node::Prefix(op) => {
+            let part = has_bit(next, before);
+            match op {
+                Unary::Not => !part,
+                Unary::Historically => part && was(last, place, true),
+                Unary::Once => part || was(last, place, false),
+                Unary::Previously => was(last, place.saturating_sub(1), false),
+            }
+        }
         Node::Infix(op, right) => {
             let left = has_bit(next, before.saturating_sub(right));
-            binary_truth(op, last, place, left, has_bit(next, before))
+            let right = has_bit(next, before);
+            match op {
+                Binary::Equivalent => left == right,
+                Binary::Implies => !left || right,
+                Binary::Or => left || right,
+                Binary::Xor => left != right,
+                Binary::And => left && right,
+                Binary::Since => right || (left && was(last, place, false)),
+            }
         }
     }
 }
 
 /// The next vector of these nodes, from the inside out. Bit k is the truth of node k; `last` is the last vector, or
 /// None at the start.
+#[tactic(auto, unfolding(crate::specs::Vectors::with_bit))]
 pub fn next_vector(nodes: &[Node<Letter>], last: Option<u64>, letter: Letter) -> u64
     requires { length nodes.now ≤ 64 }
     ensures { result ≡ vector_from last letter.0 0 0 nodes.now }
 {
     let mut next = 0;
     for (place, node) in nodes.iter().enumerate() {
-        let truth = node_truth(last, letter, place, next, *node);
-        next = with_bit(next, place, truth);
+        if node_truth(last, letter, place, next, *node) {
+            next |= 1 << place;
+        }
     }
     next
 }

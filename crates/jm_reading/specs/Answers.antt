@@ -30,8 +30,3 @@ Leaves (Err e) left read = FailsAt e read
 abbrev pub IsSyntax : SpecError → Type 0
 IsSyntax (Bad (Syntax line)) = Unit {0}
 IsSyntax _ = ⊥
-
--- it answers that it has read this, and leaves these tokens
-abbrev pub Fills : {X Y : Type 0} → Result X SpecError → Y → List Token → Option (Y × List Token) → Type 0
-Fills (Ok x) new left read = read ≡ Some (new, left)
-Fills (Err e) new left read = FailsAt e read

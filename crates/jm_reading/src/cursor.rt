@@ -1,5 +1,5 @@
 //! A place in a list of tokens, from which a reader goes on.
-ghost use Rattle.std.specs.Prelude.{◌≡◌, ◌≤◌, length, drop};
+ghost use Rattle.std.specs.Prelude.{◌≡◌, ◌≤◌, length, drop, slice_range};
 ghost use Rattle.jm_model.specs.declared.fault.SpecError.TheVariants.{Bad};
 ghost use Rattle.jm_model.specs.declared.fault.SpecFault.TheVariants.{Syntax};
 ghost use Rattle.jm_text.specs.Spans.{LieWithin};
@@ -35,10 +35,7 @@ impl<'a> Cursor<'a> {
         Cursor {
             alloc,
             bytes,
-            last_line: match tokens {
-                [.., token] => token.line,
-                [] => line,
-            },
+            last_line: tokens.last().map_or(line, |token| token.line),
             rest: tokens,
         }
     }
@@ -47,10 +44,7 @@ impl<'a> Cursor<'a> {
     pub fn line(&self) -> u32
         ensures { result ≡ line_of self.now.last_line self.now.rest.now }
     {
-        match self.rest {
-            [token, ..] => token.line,
-            [] => self.last_line,
-        }
+        self.rest.first().map_or(self.last_line, |token| token.line)
     }
 
     /// `Syntax`, at the next token.
@@ -65,40 +59,28 @@ impl<'a> Cursor<'a> {
     pub fn is_mark_at(&self, k: usize, mark: &[u8]) -> bool
         ensures { result ≡ is_mark_at self.now.bytes.now self.now.rest.now k mark.now }
     {
-        match self.rest.get(k) {
-            Some(token) => is_mark(self.bytes, *token, mark),
-            None => false,
-        }
+        matches!(self.rest.get(k), Some(token) if is_mark(self.bytes, *token, mark))
     }
 
     /// Whether the token that many tokens ahead is this word.
     pub fn is_word_at(&self, k: usize, word: &[u8]) -> bool
         ensures { result ≡ is_word_at self.now.bytes.now self.now.rest.now k word.now }
     {
-        match self.rest.get(k) {
-            Some(token) => is_word(self.bytes, *token, word),
-            None => false,
-        }
+        matches!(self.rest.get(k), Some(token) if is_word(self.bytes, *token, word))
     }
 
     /// Whether the token that many tokens ahead is a name.
     pub fn is_name_at(&self, k: usize) -> bool
         ensures { result ≡ is_name_at self.now.bytes.now self.now.rest.now k }
     {
-        match self.rest.get(k) {
-            Some(token) => is_name(self.bytes, *token),
-            None => false,
-        }
+        matches!(self.rest.get(k), Some(token) if is_name(self.bytes, *token))
     }
 
     /// Whether a token is left.
     pub fn is_left(&self) -> bool
         ensures { result ≡ is_left self.now.bytes.now self.now.rest.now }
     {
-        match self.rest {
-            [] => false,
-            _ => true,
-        }
+        !self.rest.is_empty()
     }
 
     /// Reads this mark.
@@ -106,8 +88,7 @@ impl<'a> Cursor<'a> {
         ensures reads { Leaves result self.new.rest.now (mark_at self.old.bytes.now mark.now self.old.rest.now) }
         ensures one { TakesOne self.old result self.new }
     {
-        let is_wanted = self.is_mark_at(0, mark);
-        self.accept(is_wanted)?;
+        self.accept(self.is_mark_at(0, mark))?;
         Ok(())
     }
 
@@ -116,8 +97,7 @@ impl<'a> Cursor<'a> {
         ensures reads { Reads result self.new.rest.now (name_at self.old.bytes.now self.old.rest.now) }
         ensures one { TakesOne self.old result self.new }
     {
-        let is_wanted = self.is_name_at(0);
-        self.accept(is_wanted)
+        self.accept(self.is_name_at(0))
     }
 
     /// Reads this word.
@@ -125,8 +105,7 @@ impl<'a> Cursor<'a> {
         ensures reads { Reads result self.new.rest.now (word_at self.old.bytes.now word.now self.old.rest.now) }
         ensures one { TakesOne self.old result self.new }
     {
-        let is_wanted = self.is_word_at(0, word);
-        self.accept(is_wanted)
+        self.accept(self.is_word_at(0, word))
     }
 
     /// Reads the next token, if it is wanted.
@@ -153,4 +132,13 @@ impl<'a> Cursor<'a> {
     {
         self.rest = &self.rest[n..];
     }
+}
+
+/// The tokens from `first` up to `last`, cut where the tokens end.
+pub fn range_of(tokens: &[Token], first: u32, last: u32) -> &[Token]
+    ensures { result.now ≡ slice_range tokens.now first last }
+{
+    let last = tokens.len().min(last as usize);
+    let first = last.min(first as usize);
+    &tokens[first..last]
 }

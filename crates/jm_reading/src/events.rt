@@ -42,9 +42,6 @@ pub fn letter_of(bytes: &[u8], table: &EventTable, token: Token) -> Result<Lette
 {
     match table.letter(name_of(bytes, token)) {
         Some(letter) => Ok(letter),
-        None => {
-            let line = token.line;
-            Err(SpecFault::UnknownName { line }.into())
-        }
+        None => Err(SpecFault::UnknownName { line: token.line }.into()),
     }
 }

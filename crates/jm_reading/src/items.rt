@@ -35,8 +35,7 @@ impl<T: Drop> Items<T> {
         ensures err { IfErr result (λ e. e ≡ SpecError.NoMemory) }
         ensures unchanged { OnErr result (self.new ≡ self.old) }
     {
-        self.items.push(item)?;
-        Ok(())
+        Ok(self.items.push(item)?)
     }
 
     /// The items with one more at the end.
@@ -73,7 +72,6 @@ impl<T> Items<T> {
     pub fn into_vec(self) -> Vec<T>
         ensures { result.items ≡ self }
     {
-        let Items { items } = self;
-        items
+        self.items
     }
 }

@@ -12,13 +12,11 @@ mod events;
 mod items;
 mod names;
 mod nesting;
-mod ranges;
 mod repeat;
 
-pub use cursor::Cursor;
+pub use cursor::{Cursor, range_of};
 pub use events::{GrammarWords, check_event_names, letter_of};
 pub use items::Items;
 pub use names::{add_name, name_of};
 pub use nesting::check_nesting;
-pub use ranges::range_of;
 pub use repeat::{Repeat, fold_many};

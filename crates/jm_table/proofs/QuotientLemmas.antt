@@ -5,12 +5,22 @@ use Rattle.std.proofs.lemmas.Nat.{div-mul-add, mod-mul-add, mul-add-lt}
 use Rattle.std.proofs.lemmas.List.Elements.{All-head, All-tail, All-from_get_or}
 use Rattle.jm_table.specs.Tables.{Transitions, next_of, state_from, state_after_of, IsTable, IsWord, IsInGroup}
 use Rattle.jm_table.specs.Minimal.{GroupTells, IsReduced, IsReachable, HaveSameGroups}
-use Rattle.jm_table.specs.Partitions.{IsPartition, IsSound, IsStable, AgreesBelow, IsQuotient}
+use Rattle.jm_table.specs.Partitions.{IsPartition, IsSound, IsStable, AgreesBelow}
 use Rattle.jm_table.proofs.PlaceLemmas.{slice_get-push}
 use Rattle.jm_table.proofs.ClassLemmas.{place_within}
 use Rattle.jm_table.proofs.SplitLemmas.{next_within}
 
 -- The table of classes.
+
+-- the states of the new table are the classes: letters lead where they lead from the first states
+pub record IsQuotient (t : Transitions) (classes firsts : List ℕ) (u : Transitions) : Type 0 where
+  pub states : u.states ≡ length firsts
+  pub letters : u.letters ≡ t.letters
+  pub groups : length u.groups ≡ length t.groups
+  pub next : (c letter : ℕ) → c < length firsts → letter < t.letters
+      → next_of u c letter ≡ get_or classes (next_of t (get_or firsts c 0) letter) 0
+  pub each : (c group : ℕ) → c < length firsts → group < length t.groups
+      → IsInGroup u c group ↔ IsInGroup t (get_or firsts c 0) group
 
 -- what stands in a group is in one that is there
 pub group_is_there : (groups : List (List ℕ)) (group state : ℕ) → IsSomeAnd (slice_get groups group) (λ states. Contains states state) → group < length groups
@@ -132,7 +142,7 @@ module _ (t : Transitions) (classes firsts next : List ℕ) (count : length next
       )
 
   -- where a table's next states are these, letters lead where they lead from the first states
-  pub next_is_quotient : (u : Transitions) → u.letters ≡ t.letters → u.next ≡ next
+  next_is_quotient : (u : Transitions) → u.letters ≡ t.letters → u.next ≡ next
       → (c letter : ℕ) → c < length firsts → letter < t.letters → next_of u c letter ≡ get_or classes (next_of t (get_or firsts c 0) letter) 0
   next_is_quotient u letters same c letter at lt =
       let within : c * t.letters + letter < length next = omega (arith, count, mul-add-lt c t.letters letter (length firsts) at lt) in
@@ -141,3 +151,15 @@ module _ (t : Transitions) (classes firsts next : List ℕ) (count : length next
       ∙ each (c * t.letters + letter) within
       ∙ ap (λ k. get_or classes (next_of t (get_or firsts k 0) ((c * t.letters + letter) % t.letters)) 0) (div-mul-add c t.letters letter lt)
       ∙ ap (λ k. get_or classes (next_of t (get_or firsts c 0) k) 0) (mod-mul-add c t.letters letter lt)
+
+  -- a table of these next states, with as many groups, each of which has the classes whose first states are in it
+  pub is_quotient : (u : Transitions) (n : ℕ) → u.states ≡ length firsts → u.letters ≡ t.letters → u.next ≡ next → n ≡ length t.groups → length u.groups ≡ n
+      → ((c group : ℕ) → c < length firsts → group < n → IsInGroup u c group ↔ IsInGroup t (get_or firsts c 0) group)
+      → IsQuotient t classes firsts u
+  is_quotient u n states letters same all groups in_groups = record {
+    states = states;
+    letters = letters;
+    groups = groups ∙ all;
+    next = next_is_quotient u letters same;
+    each = λ c group at within. in_groups c group at (omega (arith, within, all));
+  }

@@ -9,11 +9,16 @@ use Rattle.std.proofs.lemmas.Nat.{mul-add-lt}
 use Rattle.std.proofs.lemmas.List.Elements.{All-nil, All-get_or, All-from_get_or}
 use Rattle.jm_table.specs.Tables.{Transitions, next_of, IsTable, IsInGroup}
 use Rattle.jm_table.specs.Minimal.{GroupTells, AreDistinguishable}
-use Rattle.jm_table.specs.Partitions.{IsPartition, IsSound, IsStable, Tells, FindsAlike, AreKeys, AreNumbered, first_of}
+use Rattle.jm_table.specs.Partitions.{IsPartition, IsSound, IsStable, IsFiner, Tells, FindsAlike, IsKeyOf, AreNumbered, first_of}
 use Rattle.jm_table.specs.declared.refinement.Test.{Test}
 use Rattle.jm_table.specs.declared.refinement.Test.TheVariants.{Group, Letters}
 
 -- How classes are split.
+
+-- these are the keys of all states
+pub record AreKeys (test : Test) (t : Transitions) (classes firsts keys : List ℕ) : Type 0 where
+  pub count : length keys ≡ t.states
+  pub each : (p : ℕ) → p < t.states → IsKeyOf test t classes firsts p (get_or keys p 0)
 
 -- two tests that give one answer, of two facts
 pub equal_tests : (a b : Bool) (P Q : Type 0) → IsTrue a ↔ P → IsTrue b ↔ Q → OnFalse (not (beq a b)) (P ↔ Q)
@@ -102,6 +107,14 @@ module _ (t : Transitions) (classes : List ℕ) where
           p_next ∙ ap (λ c. get_or classes (next_of t (get_or firsts c 0) letter) 0) class ∙ sym q_next in
           (by_keys.by_keys (next_of t p letter) (next_of t q letter) after_p after_q).1
           ((key_is_alike (next_of t p letter) after_p (below (next_of t p letter) after_p)).0 ∙ one ∙ sym (key_is_alike (next_of t q letter) after_q (below (next_of t q letter) after_q)).0)
+
+      pub split_is_finer : IsFiner t.states classes new_classes
+      split_is_finer p q at_p at_q same =
+          let key = (by_keys.by_keys p q at_p at_q).0 same in
+          elim (made.each p at_p) [
+            | inl alike_p ↦ elim (made.each q at_q) [ inl alike_q ↦ omega (arith, key, alike_p.0, alike_q.0) | inr told_q ↦ absurd (omega (arith, key, alike_p.0, told_q.0, partition.within p at_p)) ]
+            | inr told_p ↦ elim (made.each q at_q) [ inl alike_q ↦ absurd (omega (arith, key, told_p.0, alike_q.0, partition.within q at_q)) | inr told_q ↦ omega (arith, key, told_p.0, told_q.0) ]
+          ]
 
       pub split_agrees : (group : ℕ) → test ≡ Group group → (p q : ℕ) → p < t.states → q < t.states → get_or new_classes p 0 ≡ get_or new_classes q 0
           → IsInGroup t p group ↔ IsInGroup t q group

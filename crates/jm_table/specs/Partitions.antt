@@ -80,11 +80,6 @@ IsKeyOf test t classes firsts p key =
     ((key ≡ slice_index classes p) × FindsAlike test t classes p (first_of classes firsts p))
     ⊎ ((key ≡ slice_index classes p + length firsts) × Tells test t classes p (first_of classes firsts p))
 
--- these are the keys of all states
-pub record AreKeys (test : Test) (t : Transitions) (classes firsts keys : List ℕ) : Type 0 where
-  pub count : length keys ≡ t.states
-  pub each : (p : ℕ) → p < t.states → IsKeyOf test t classes firsts p (slice_index keys p)
-
 -- ---- classes by keys
 
 -- the key has this number: it is the key of the number's first state
@@ -122,15 +117,3 @@ pub record AreNumbered (n : ℕ) (keys firsts new_classes new_firsts : List ℕ)
       → (slice_index new_classes p ≡ slice_index new_classes q) ↔ (slice_index keys p ≡ slice_index keys q)
   pub grown : length firsts ≤ length new_firsts
   pub more : (p : ℕ) → p < n → length firsts ≤ slice_index keys p → length firsts < length new_firsts
-
--- ---- the table of classes
-
--- the states of the new table are the classes: letters lead where they lead from the first states
-pub record IsQuotient (t : Transitions) (classes firsts : List ℕ) (u : Transitions) : Type 0 where
-  pub states : u.states ≡ length firsts
-  pub letters : u.letters ≡ t.letters
-  pub groups : length u.groups ≡ length t.groups
-  pub next : (c letter : ℕ) → c < length firsts → letter < t.letters
-      → next_of u c letter ≡ slice_index classes (next_of t (slice_index firsts c) letter)
-  pub each : (c group : ℕ) → c < length firsts → group < length t.groups
-      → IsInGroup u c group ↔ IsInGroup t (slice_index firsts c) group

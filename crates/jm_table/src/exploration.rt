@@ -1,8 +1,7 @@
-ghost use Rattle.std.specs.Prelude.{ℕ, ◌≡◌, ◌≢◌, ◌<◌, ◌≤◌, ◌+◌, ◌*◌, ◌⊎◌, [], ◌∷◌, ◌++◌, Some, Ok, Err, List, Contains, IfOk, IfErr, MatchOption, OnOk, IsOkUnless, MatchResult, map, length, slice_get, vec_len};
+ghost use Rattle.std.specs.Prelude.{ℕ, ◌≡◌, ◌<◌, ◌≤◌, ◌+◌, ◌*◌, ◌⊎◌, [], ◌∷◌, ◌++◌, Some, Ok, Err, IfOk, IfErr, OnOk, IsOkUnless, map, slice_get, vec_len};
 ghost use Rattle.jm_model.specs.declared.fault.SpecFault.{SpecFault};
-ghost use Rattle.jm_table.specs.Graphs.{Answers};
 ghost use Rattle.jm_table.specs.Explorations.{Finds, IsExplored, IsInWork, IsMet, IsCrowded, IfBad, first_found, most_states};
-ghost use Rattle.jm_table.specs.Tables.{Follows, Transitions};
+ghost use Rattle.jm_table.specs.Tables.{Follows};
 ghost use Rattle.jm_table.specs.Buckets.{IsIndex};
 
 use crate::graph::Graph;
@@ -143,30 +142,15 @@ fn number<G: Graph>(graph: &G, work: &mut Work<G::Node>, node: G::Node) -> Resul
         (map (G.data_of graph.now) work.new.nodes.items) work.new.known) }
     ensures next { work.new.next ≡ work.old.next }
 {
-    if let Some(number) = find(graph, work, &node) {
-        return Ok(number);
+    for number in work.known.bucket(graph.key(&node)) {
+        if graph.same(&work.nodes[*number as usize], &node) {
+            return Ok(*number);
+        }
     }
     if work.nodes.len() == MAX_STATES {
         return Err(SpecFault::TooManyStates.into());
     }
     append(graph, work, node)
-}
-
-/// The number of a known node that stands for the same.
-fn find<G: Graph>(graph: &G, work: &Work<G::Node>, node: &G::Node) -> Option<u16>
-    requires bounded { vec_len work.now.nodes ≤ most_states }
-    requires index { IsIndex (G.key_of graph.now) (map (G.data_of graph.now) work.now.nodes.items) work.now.known }
-    ensures { MatchOption result
-        (Contains (map (G.data_of graph.now) work.now.nodes.items) (G.data_of graph.now node.now) → ⊥)
-        (λ number. slice_get (map (G.data_of graph.now) work.now.nodes.items) number
-        ≡ Some (G.data_of graph.now node.now)) }
-{
-    for number in work.known.bucket(graph.key(node)) {
-        if graph.same(&work.nodes[*number as usize], node) {
-            return Some(*number);
-        }
-    }
-    None
 }
 
 /// Makes a node known, and gives it the next number.

@@ -1,7 +1,7 @@
-ghost use Rattle.std.specs.Prelude.{ℕ, ◌≡◌, ◌<◌, ◌≤◌, ◌+◌, ◌*◌, ◌/◌, ◌%◌, ◌↔◌, List, [], ◌∷◌, ◌++◌, length, All, Contains, IfOk, OnOk, slice_index};
-ghost use Rattle.jm_table.specs.Tables.{Transitions, IsTable, next_of, IsInGroup};
+ghost use Rattle.std.specs.Prelude.{ℕ, ◌≡◌, ◌<◌, ◌≤◌, ◌*◌, ◌/◌, ◌%◌, ◌↔◌, length, All, Contains, IfOk, slice_index};
+ghost use Rattle.jm_table.specs.Tables.{IsTable, next_of, IsInGroup};
 ghost use Rattle.jm_table.specs.Minimal.{IsReduced, IsReachable, HaveSameGroups};
-ghost use Rattle.jm_table.specs.Partitions.{IsPartition, IsQuotient};
+ghost use Rattle.jm_table.specs.Partitions.{IsPartition};
 ghost use Rattle.jm_table.specs.Explorations.{most_states};
 
 use crate::partition::Partition;
@@ -25,26 +25,15 @@ impl Table {
     {
         let alloc = self.allocator();
         let partition = equivalence(alloc, &self)?;
-        let minimal = quotient(alloc, &self, &partition)?;
+        let states = partition.firsts.len() as u16;
+        let next = next_classes(alloc, &self, &partition)?;
+        let mut minimal = Table::new(alloc, self.letters(), states, next);
+        for group in 0..self.group_count() {
+            let members = classes_in(alloc, &self, &partition, group)?;
+            minimal.add_group(&members)?;
+        }
         Ok(minimal)
     }
-}
-
-/// The table whose states are the classes.
-fn quotient(alloc: Global, table: &Table, partition: &Partition) -> Result<Table, NoMemory>
-    requires { IsPartition table.now.states partition.now.classes.items partition.now.firsts.items }
-    ensures quotient { IfOk result (IsQuotient table.now partition.now.classes.items partition.now.firsts.items) }
-    ensures table { IfOk result IsTable }
-{
-    let letters = table.letters();
-    let states = partition.firsts.len() as u16;
-    let next = next_classes(alloc, table, partition)?;
-    let mut quotient = Table::new(alloc, letters, states, next);
-    for group in 0..table.group_count() {
-        let members = classes_in(alloc, table, partition, group)?;
-        quotient.add_group(&members)?;
-    }
-    Ok(quotient)
 }
 
 /// The classes that letters lead to, class by class and in each letter by letter.

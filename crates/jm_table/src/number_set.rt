@@ -1,4 +1,4 @@
-ghost use Rattle.std.specs.Prelude.{ℕ, ◌≡◌, ◌<◌, ◌≤◌, ◌*◌, ◌⊎◌, ◌↔◌, [], IsTrue, Contains, length};
+ghost use Rattle.std.specs.Prelude.{ℕ, ◌≡◌, ◌<◌, ◌≤◌, ◌*◌, ◌⊎◌, ◌↔◌, IsTrue, Contains, length};
 
 use std::marker::Model;
 
@@ -31,8 +31,7 @@ impl<const WORDS: usize> NumberSet<WORDS> {
         ensures member { IsTrue result ↔ Contains self.now number }
         ensures below { (other : ℕ) → Contains self.now other → other < 64 * WORDS }
     {
-        let word = self.words[number as usize / 64];
-        (word >> (number % 64)) & 1 == 1
+        (self.words[number as usize / 64] >> (number % 64)) & 1 == 1
     }
 
     /// Puts a number into the set.
@@ -42,8 +41,6 @@ impl<const WORDS: usize> NumberSet<WORDS> {
         ensures longer { (Contains self.old number → ⊥) → length self.old < length self.new }
         ensures bounded { length self.new ≤ 64 * WORDS }
     {
-        let at = number as usize / 64;
-        let word = self.words[at];
-        self.words[at] = word | (1 << (number % 64));
+        self.words[number as usize / 64] |= 1 << (number % 64);
     }
 }

@@ -1,4 +1,4 @@
-ghost use Rattle.std.specs.Prelude.{ℕ, ◌≡◌, ◌<◌, ◌≤◌, ◌+◌, ◌*◌, ◌↔◌, IsTrue, IfOk, OnOk, length, slice_index};
+ghost use Rattle.std.specs.Prelude.{ℕ, ◌≡◌, ◌<◌, ◌≤◌, ◌*◌, IfOk, OnOk, length, slice_index};
 ghost use Rattle.jm_table.specs.Partitions.{IsPartition, IsKnown, AreGiven, AreGivenOn, FitClasses, AreNumbered};
 ghost use Rattle.jm_table.specs.Explorations.{most_states};
 
@@ -36,25 +36,17 @@ impl Partition {
         ensures { OnOk result (AreNumbered (length keys.now) keys.now self.old.firsts.items
             self.new.classes.items self.new.firsts.items) }
     {
-        let mut numbers = numbers_below(alloc, 2 * self.firsts.len() as u16)?;
+        let end = 2 * self.firsts.len() as u16;
+        let mut numbers = Vec::with_capacity(alloc, end as usize)?;
+        for number in 0..end {
+            numbers.push(number)?;
+        }
         for state in 0..keys.len() {
             let number = number_of(&mut self.firsts, &mut numbers, keys, state)?;
             self.classes[state] = number;
         }
         Ok(())
     }
-}
-
-/// The numbers from 0 up to this one, which isn't among them.
-fn numbers_below(alloc: Global, end: u16) -> Result<Vec<u16>, NoMemory>
-    ensures count { IfOk result (λ numbers. length numbers.items ≡ end) }
-    ensures each { IfOk result (λ numbers. (k : ℕ) → k < end → slice_index numbers.items k ≡ k) }
-{
-    let mut numbers = Vec::with_capacity(alloc, end as usize)?;
-    for number in 0..end {
-        numbers.push(number)?;
-    }
-    Ok(numbers)
 }
 
 /// The number of a state's key, which is a new one where the key has none.
@@ -77,23 +69,11 @@ fn number_of(
 {
     let key = keys[state];
     let number = numbers[key as usize];
-    if is_number_of(firsts, keys, number, key) {
+    if (number as usize) < firsts.len() && keys[firsts[number as usize] as usize] == key {
         return Ok(number);
     }
     let number = firsts.len() as u16;
     firsts.push(state as u16)?;
     numbers[key as usize] = number;
     Ok(number)
-}
-
-/// Whether the number is there, and its first state has the key.
-fn is_number_of(firsts: &[u16], keys: &[u16], number: u16, key: u16) -> bool
-    requires { (c : ℕ) → c < length firsts.now → slice_index firsts.now c < length keys.now }
-    ensures { IsTrue result ↔
-        ((number < length firsts.now) × (slice_index keys.now (slice_index firsts.now number) ≡ key)) }
-{
-    if number as usize >= firsts.len() {
-        return false;
-    }
-    keys[firsts[number as usize] as usize] == key
 }

@@ -1,4 +1,4 @@
-ghost use Rattle.std.specs.Prelude.{ℕ, ◌≡◌, ◌<◌, ◌≤◌, ◌*◌, ◌↔◌, List, [], ◌∷◌, ◌++◌, length, map, All, Contains, IsTrue, IfOk, OnErr, vec_len};
+ghost use Rattle.std.specs.Prelude.{ℕ, ◌≡◌, ◌<◌, ◌*◌, ◌↔◌, List, [], ◌∷◌, ◌++◌, length, map, All, Contains, IsTrue, IfOk, OnErr};
 ghost use Rattle.jm_table.specs.Tables.{IsTable, next_of, state_after_of, IsInGroup, most_groups};
 
 use crate::number_set::NumberSet;

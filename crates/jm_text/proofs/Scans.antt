@@ -1,7 +1,7 @@
 -- The steps of the loops that look for the end of a piece.
-use Rattle.std.proofs.Common.{◌≡◌, ℕ, ◌+◌, ◌<◌, true, false, eqb, List, [], ◌∷◌, length, get_or, drop, Option, Some, None, refl, sym, ap, ◌∙◌, arith}
+use Rattle.std.proofs.Common.{◌≡◌, ℕ, ◌+◌, ◌<◌, ◌≤◌, Bool, true, false, cond, eqb, ltb, tests, List, [], ◌∷◌, length, get_or, drop, Option, Some, None, refl, sym, ap, ◌∙◌, arith}
 use Rattle.std.specs.List.{starts_with}
-use Rattle.std.specs.Prelude.{nat_eq, codes}
+use Rattle.std.specs.Prelude.{nat_eq, codes, unwrap_or}
 use Rattle.std.proofs.lemmas.List.{drop_more, drop-drop}
 use Rattle.jm_text.specs.Pieces.{line_feed, plus, comment_rest, escapes, text_rest}
 
@@ -55,3 +55,13 @@ module _ (q : ℕ) (bytes : List ℕ) (i : ℕ) (lt : i < length bytes) where
       let two : i + 1 + 1 ≡ i + 2 = omega arith in
       let more = drop-drop 1 (i + 1) bytes ∙ ap (λ n. drop n bytes) two in
       there ∙ escape_first q _ _ h k (ap escapes (sym (drop_more bytes i 0 lt)) ∙ e) ∙ ap (λ bs. plus 2 (text_rest q bs)) more
+
+-- the place that a search found, or the length
+pub found_or_all : (found : Option ℕ) (p n : ℕ) → p ≤ n → found ≡ cond (ltb p n) (Some p) None → unwrap_or found n ≡ p
+found_or_all found p n within is = go (ltb p n) refl is
+  where
+    go : (v : Bool) → ltb p n ≡ v → found ≡ cond v (Some p) None → unwrap_or found n ≡ p
+    go true less e = ap (λ (o : Option ℕ). unwrap_or o n) e
+    go false less e =
+        let last : n ≡ p = grind (arith, tests) in
+        ap (λ (o : Option ℕ). unwrap_or o n) e ∙ last

@@ -24,17 +24,6 @@ pub fn tokens(alloc: Global, bytes: &[u8]) -> Result<Vec<Token>, SpecError>
     if from_utf8(bytes).is_err() {
         return Err(SpecFault::NotUtf8.into());
     }
-    cut(alloc, bytes)
-}
-
-/// The tokens of bytes that are UTF-8.
-fn cut(alloc: Global, bytes: &[u8]) -> Result<Vec<Token>, SpecError>
-    requires small { length bytes.now < 2 ^ 32 }
-    requires utf8 { IsUtf8 bytes.now }
-    ensures ok { IfOk result (λ v. AreTokensOf bytes.now v.items) }
-    ensures in_order { IfOk result (λ v. LieInOrder 0 v.items (length bytes.now)) }
-    ensures err { IfErr result (IsFaultOf bytes.now) }
-{
     let mut tokens = Vec::new(alloc);
     let mut start = 0;
     let mut line = 1;

@@ -1,7 +1,7 @@
 //! What stands at the front of some bytes.
 ghost use Rattle.std.specs.Prelude.{◌≡◌, ◌<◌, ◌≤◌, length, IsTrue, IfSome};
 ghost use Rattle.std.specs.List.{prefix_len};
-ghost use Rattle.jm_text.specs.Pieces.{is_white, is_quote, is_word_byte, line_length, comment_rest, escapes, text_rest, mark_length, piece_of};
+ghost use Rattle.jm_text.specs.Pieces.{is_word_byte, line_length, comment_rest, escapes, text_rest, mark_length, piece_of};
 ghost use Rattle.jm_text.specs.Tokens.{FitsIn};
 
 use crate::token::TokenKind;
@@ -23,31 +23,19 @@ pub fn piece_of(bytes: &[u8]) -> Piece
     ensures fits { FitsIn (length bytes.now) result }
 {
     let first = bytes[0];
-    if is_white(first) {
+    if first == b' ' || first == b'\t' || first == b'\r' || first == b'\n' {
         Piece::Gap(1)
     } else if bytes.starts_with(b"//") {
         Piece::Gap(line_length(bytes))
     } else if bytes.starts_with(b"/*") {
         comment_rest(&bytes[2..]).map_or(Piece::Open, |n| Piece::Gap(n + 2))
-    } else if is_quote(first) {
+    } else if first == b'"' || first == b'\'' {
         text_rest(first, &bytes[1..]).map_or(Piece::Open, |n| Piece::Cut(TokenKind::Text, n + 1))
     } else if is_word_byte(first) {
         Piece::Cut(TokenKind::Word, word_length(bytes))
     } else {
         Piece::Cut(TokenKind::Mark, mark_length(bytes))
     }
-}
-
-fn is_white(b: u8) -> bool
-    ensures { result ≡ is_white b }
-{
-    b == b' ' || b == b'\t' || b == b'\r' || b == b'\n'
-}
-
-fn is_quote(b: u8) -> bool
-    ensures { result ≡ is_quote b }
-{
-    b == b'"' || b == b'\''
 }
 
 fn is_word_byte(b: u8) -> bool
@@ -61,12 +49,8 @@ fn line_length(bytes: &[u8]) -> usize
     ensures value { result ≡ line_length bytes.now }
     ensures fits { result ≤ length bytes.now }
 {
-    for (i, b) in bytes.iter().enumerate() {
-        if *b == b'\n' {
-            return i;
-        }
-    }
-    bytes.len()
+    let end = bytes.iter().position(|b| *b == b'\n');
+    end.unwrap_or(bytes.len())
 }
 
 /// How many bytes at the front are of a word.
@@ -74,12 +58,8 @@ fn word_length(bytes: &[u8]) -> usize
     ensures value { result ≡ prefix_len is_word_byte bytes.now }
     ensures fits { result ≤ length bytes.now }
 {
-    for (i, b) in bytes.iter().enumerate() {
-        if !is_word_byte(*b) {
-            return i;
-        }
-    }
-    bytes.len()
+    let end = bytes.iter().position(|b| !is_word_byte(*b));
+    end.unwrap_or(bytes.len())
 }
 
 /// After `/*`: how many bytes the comment goes on.

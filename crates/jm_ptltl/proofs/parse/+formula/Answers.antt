@@ -1,11 +1,21 @@
-use Rattle.std.proofs.Common.{suc, ◌≡◌, ◌-◌, List, ◌++◌, length, drop, refl, sym, ap, subst, ◌∙◌, arith}
+use Rattle.std.proofs.Common.{ℕ, suc, ◌≡◌, ◌<◌, ◌-◌, List, [], ◌∷◌, ◌++◌, Ok, Err, length, drop, sym, ap, subst, ◌∙◌, arith, rules, append-nil}
 use Rattle.std.proofs.lemmas.Result.{err_from_is_err_and}
 use Rattle.jm_text.specs.declared.token.Token.{Token}
 use Rattle.jm_reading.specs.Answers.{FailsAt}
 use Rattle.jm_ptltl.specs.Answers.{AddsNodes, AddsBy}
-use Rattle.jm_ptltl.specs.Rules.{class_at, is_prefix, begins, atom_at, join_at, skip_at, part_at, inside_at, formula_from, behind_all, closing}
-use Rattle.jm_ptltl.proofs.ReaderLemmas.{operand_adds, operand_fails, inside_adds, joins_begin, joins_more, joins_end, joins_fail, chain_begin, chain_more, chain_end, chain_fail, adds_more, nodes_at, fail_at, by_at, skip_adds, not_four, named_at, truth_at, open_at, none_at, end_at, fails_at_syntax}
+use Rattle.jm_ptltl.specs.declared.formula.Unary.{Unary}
+use Rattle.jm_ptltl.specs.declared.formula.Node.{Node}
+use Rattle.jm_ptltl.specs.Rules.{class_at, begins, operand_at, atom_at, join_at, part_at, inside_at, formula_from}
+use Rattle.jm_ptltl.proofs.NodeLemmas.{behind_all, closing, apply_more, close_more}
+use Rattle.jm_ptltl.proofs.ReaderLemmas.{is_prefix, over_all, other_than_prefix, prefix_more, over_all-push, drop_within, after_skip, operand_adds, operand_fails, inside_adds, joins_begin, joins_more, joins_end, joins_fail, chain_begin, chain_more, chain_end, chain_fail, adds_more, nodes_at, fail_at, by_at, not_four, named_at, truth_at, open_at, none_at, end_at, fails_at_syntax}
 use Rattle.jm_ptltl.proofs.parse.+formula.Goals as goal
+
+-- nothing is left to be added
+finished : (nodes whole : List (Node Token)) (starts : List ℕ) → starts ≡ [] → nodes ++ closing starts (length nodes) ≡ whole → nodes ≡ whole
+finished nodes whole starts none is = sym (append-nil nodes) ∙ ap (λ (l : List ℕ). nodes ++ closing l (length nodes)) (sym none) ∙ is
+
+applied : (nodes whole : List (Node Token)) (ops : List Unary) → ops ≡ [] → nodes ++ behind_all ops ≡ whole → nodes ≡ whole
+applied nodes whole ops none is = sym (append-nil nodes) ∙ ap (λ (l : List Unary). nodes ++ behind_all l) (sym none) ∙ is
 
 -- ---- `=>`
 
@@ -19,31 +29,40 @@ implications-loop-cursor-init t c = record {
 pub implications-loop-cursor-preserved : goal.implications-loop-cursor-preserved
 implications-loop-cursor-preserved t c =
     let bytes = c.args.cursor.now.bytes.now in
-    let here = c.loop-cursor.cursor.bytes.now in
     let rest = c.loop-cursor.cursor.rest.now in
-    let left = c.imply.new.cursor.rest.now in
+    let left = c.part-in-loop-cursor.new.cursor.rest.now in
     let inv = c.loop-cursor.invariant in
+    let same : c.skip.new.cursor.bytes.now ≡ bytes = c.skip.ensures.bytes ∙ inv.same_bytes in
+    let less : length left < length rest = omega (arith, c.in_ok-part-2.ensures.left, ap (λ (l : List Token). length l) c.skip.ensures.rest, drop_within rest) in
     record {
-      same_bytes = c.imply.ensures.bytes ∙ inv.same_bytes;
-      fewer = omega (arith, inv.fewer, c.in_ok-imply.ensures.left);
+      same_bytes = c.part-in-loop-cursor.ensures.bytes ∙ same;
+      fewer = omega (arith, inv.fewer, less);
       chain = λ n few.
-          chain_more bytes n c.args.cursor.now.rest.now c.args.nodes.now rest left c.loop-cursor.nodes c.imply.new.nodes c.loop-cursor.starts.items c.imply.new.starts.items (inv.chain n few)
+          chain_more bytes n c.args.cursor.now.rest.now c.args.nodes.now rest left c.loop-cursor.nodes c.part-in-loop-cursor.new.nodes c.loop-cursor.starts.items c.push.new.self.items (inv.chain n few)
           (ap (λ b. begins b 5 rest) (sym inv.same_bytes) ∙ sym c.loop-cursor-test.ensures)
-          (nodes_at (λ b inner. skip_at (part_at b inner 4)) here bytes inv.same_bytes c.loop-cursor.nodes c.imply.new.nodes rest left c.in_ok-imply.ensures.reads n (omega (arith, few, inv.fewer)))
-          c.in_ok-imply.ensures.left c.in_ok-imply.ensures.starts;
+          (after_skip bytes c.skip.new.cursor.bytes.now 4 same {X = Unit {0}} (Ok tt) c.loop-cursor.nodes c.part-in-loop-cursor.new.nodes rest c.skip.new.cursor.rest.now left c.skip.ensures.rest c.in_ok-part-2.ensures.reads n (omega (arith, few, inv.fewer)))
+          less (c.in_ok-push.ensures.items ∙ ap (λ (l : List (Node Token)). c.loop-cursor.starts.items ++ length l ∷ []) c.as_slice.ensures);
     }
 
-pub implications-returns-in_err-imply-clause-reads : goal.implications-returns-in_err-imply-clause-reads
-implications-returns-in_err-imply-clause-reads t c = λ n few.
+pub implications-returns-in_err-part-2-clause-reads : goal.implications-returns-in_err-part-2-clause-reads
+implications-returns-in_err-part-2-clause-reads t c = λ n few.
     let bytes = c.args.cursor.now.bytes.now in
-    let here = c.loop-cursor.cursor.bytes.now in
     let rest = c.loop-cursor.cursor.rest.now in
     let inv = c.loop-cursor.invariant in
-    let p = err_from_is_err_and c.from_residual-in_err-imply.result c.from_residual-in_err-imply.ensures.1 in
+    let same : c.skip.new.cursor.bytes.now ≡ bytes = c.skip.ensures.bytes ∙ inv.same_bytes in
+    let p = err_from_is_err_and c.from_residual-in_err-part-2.result c.from_residual-in_err-part-2.ensures.1 in
     rw (p.1, p.2)
     (chain_fail bytes n c.args.cursor.now.rest.now c.args.nodes.now rest c.loop-cursor.nodes c.loop-cursor.starts.items _ (inv.chain n few)
     (ap (λ b. begins b 5 rest) (sym inv.same_bytes) ∙ sym c.loop-cursor-test.ensures)
-    (fail_at (λ b inner. skip_at (part_at b inner 4)) here bytes inv.same_bytes c.in_err-imply.field-0.0 rest c.in_err-imply.ensures.reads n (omega (arith, few, inv.fewer))))
+    (after_skip bytes c.skip.new.cursor.bytes.now 4 same {X = Unit {0}} (Err c.in_err-part-2.field-0.0) c.loop-cursor.nodes c.part-in-loop-cursor.new.nodes rest c.skip.new.cursor.rest.now c.part-in-loop-cursor.new.cursor.rest.now c.skip.ensures.rest c.in_err-part-2.ensures.reads n (omega (arith, few, inv.fewer))))
+
+pub implications-loop-start-preserved : goal.implications-loop-start-preserved
+implications-loop-start-preserved t c =
+    let nodes = c.loop-start.nodes in
+    let left = c.pop.new.self.items in
+    ap (λ (l : List (Node Token)). l ++ closing left (length l)) c.in_ok-push-2.ensures.ok
+    ∙ close_more nodes left c.in-Some.start c.saturating_sub-right.result (omega (arith, c.saturating_sub-right.ensures, ap (λ (l : List (Node Token)). length l) c.as_slice-in-Some.ensures))
+    ∙ ap (λ (l : List ℕ). nodes ++ closing l (length nodes)) (sym c.in-Some.ensures.items) ∙ c.loop-start.invariant
 
 pub implications-returns-clause-reads : goal.implications-returns-clause-reads
 implications-returns-clause-reads t c = λ n few.
@@ -51,19 +70,9 @@ implications-returns-clause-reads t c = λ n few.
     let rest = c.loop-cursor.cursor.rest.now in
     let nodes = c.loop-cursor.nodes in
     let inv = c.loop-cursor.invariant in
-    adds_more c.close.result c.args.nodes.now c.close.new.nodes (nodes ++ closing c.loop-cursor.starts.items (length nodes)) rest rest _ c.close.ensures.ok c.close.ensures.err
-    (chain_end bytes n c.args.cursor.now.rest.now c.args.nodes.now rest nodes (nodes ++ closing c.loop-cursor.starts.items (length nodes)) c.loop-cursor.starts.items (inv.chain n few)
-    (ap (λ b. begins b 5 rest) (sym inv.same_bytes) ∙ sym c.loop-cursor-test.ensures) refl)
-    refl
-
-pub imply-returns-clause-reads : goal.imply-returns-clause-reads
-imply-returns-clause-reads t c =
-    let bytes = c.args.cursor.now.bytes.now in
-    let rest = c.args.cursor.now.rest.now in
-    let left = c.part.new.cursor.rest.now in
-    skip_adds bytes 4 c.part.result c.args.nodes.now c.part.new.nodes rest left
-    (subst (λ (l : List Token). AddsBy bytes (λ inner. part_at bytes inner 4) c.part.result c.args.nodes.now c.part.new.nodes l left) c.skip.ensures.rest
-    (by_at (λ b inner. part_at b inner 4) c.skip.new.cursor.bytes.now bytes c.skip.ensures.bytes c.part.result c.args.nodes.now c.part.new.nodes c.skip.new.cursor.rest.now left c.part.ensures.reads))
+    chain_end bytes n c.args.cursor.now.rest.now c.args.nodes.now rest nodes c.loop-start.nodes c.loop-cursor.starts.items (inv.chain n few)
+    (ap (λ b. begins b 5 rest) (sym inv.same_bytes) ∙ sym c.loop-cursor-test.ensures)
+    (finished c.loop-start.nodes _ c.loop-start.starts.items (search rules) c.loop-start.invariant)
 
 -- ---- operators of a rank
 
@@ -134,33 +143,51 @@ nested-returns-clause-reads t c = λ n few.
 
 -- ---- operators of one part
 
+pub operand-loop-op-preserved : goal.operand-loop-op-preserved
+operand-loop-op-preserved t c =
+    let bytes = c.args.cursor.now.bytes.now in
+    let rest = c.loop-op.cursor.rest.now in
+    let ops = c.loop-op.ops.items in
+    let inv = c.loop-op.invariant in
+    record {
+      same_bytes = c.skip.ensures.bytes ∙ inv.same_bytes;
+      fewer = omega (arith, inv.fewer, ap (λ (l : List Token). length l) c.skip.ensures.rest, drop_within rest);
+      reads = λ inner.
+          inv.reads inner
+          ∙ ap (λ r. over_all ops r) (prefix_more bytes rest c.in-Prefix.op inner (ap (λ b. class_at b rest) (sym inv.same_bytes) ∙ sym c.in-Prefix.ensures))
+          ∙ sym (over_all-push ops c.in-Prefix.op (operand_at bytes inner (drop 1 rest)))
+          ∙ ap (λ (l : List Token). over_all (ops ++ c.in-Prefix.op ∷ []) (operand_at bytes inner l)) (sym c.skip.ensures.rest)
+          ∙ ap (λ (l : List Unary). over_all l (operand_at bytes inner c.skip.new.cursor.rest.now)) (sym c.in_ok-push.ensures.items);
+    }
+
 pub operand-returns-in_err-atom-clause-reads : goal.operand-returns-in_err-atom-clause-reads
 operand-returns-in_err-atom-clause-reads t c = λ n few.
     let bytes = c.args.cursor.now.bytes.now in
-    let start = c.args.cursor.now.rest.now in
-    let here = c.prefixes.new.cursor.bytes.now in
-    let rest = c.prefixes.new.cursor.rest.now in
     let inner = formula_from bytes n in
+    let rest = c.loop-op.cursor.rest.now in
+    let inv = c.loop-op.invariant in
     let e = c.in_err-atom.field-0.0 in
     let p = err_from_is_err_and c.from_residual-in_err-atom.result c.from_residual-in_err-atom.ensures.1 in
     rw (p.1, p.2)
-    (operand_fails bytes inner start rest c.in_ok-ops.ops.items (c.in_ok-ops.ensures.reads inner) (ap (λ b. is_prefix (class_at b rest)) (sym c.prefixes.ensures.bytes) ∙ c.in_ok-ops.ensures.end) e
-    (fail_at (λ b inner. atom_at b inner) here bytes c.prefixes.ensures.bytes e rest c.in_err-atom.ensures.reads n (omega (arith, few, c.prefixes.ensures.left))))
+    (operand_fails bytes inner c.args.cursor.now.rest.now rest c.loop-op.ops.items (inv.reads inner) (ap (λ b. is_prefix (class_at b rest)) (sym inv.same_bytes) ∙ ap is_prefix (sym c.class.ensures) ∙ other_than_prefix c.class.result c.in_default.not-Prefix) e
+    (fail_at (λ b inner. atom_at b inner) c.loop-op.cursor.bytes.now bytes inv.same_bytes e rest c.in_err-atom.ensures.reads n (omega (arith, few, inv.fewer))))
+
+pub operand-loop-op-2-preserved : goal.operand-loop-op-2-preserved
+operand-loop-op-2-preserved t c =
+    let nodes = c.loop-op-2.nodes in
+    let left = c.pop.new.self.items in
+    ap (λ (l : List (Node Token)). l ++ behind_all left) c.in_ok-push-2.ensures.ok ∙ apply_more nodes left c.in-Some.op ∙ ap (λ (l : List Unary). nodes ++ behind_all l) (sym c.in-Some.ensures.items) ∙ c.loop-op-2.invariant
 
 pub operand-returns-clause-reads : goal.operand-returns-clause-reads
 operand-returns-clause-reads t c = λ n few.
     let bytes = c.args.cursor.now.bytes.now in
-    let start = c.args.cursor.now.rest.now in
-    let here = c.prefixes.new.cursor.bytes.now in
-    let rest = c.prefixes.new.cursor.rest.now in
-    let left = c.atom.new.cursor.rest.now in
     let inner = formula_from bytes n in
-    let ops = c.in_ok-ops.ops.items in
-    let nodes = c.atom.new.nodes in
-    adds_more c.apply.result c.args.nodes.now c.apply.new.nodes (nodes ++ behind_all ops) left left _ c.apply.ensures.ok c.apply.ensures.err
-    (operand_adds bytes inner start rest ops (c.in_ok-ops.ensures.reads inner) (ap (λ b. is_prefix (class_at b rest)) (sym c.prefixes.ensures.bytes) ∙ c.in_ok-ops.ensures.end) c.args.nodes.now nodes (nodes ++ behind_all ops) left
-    (nodes_at (λ b inner. atom_at b inner) here bytes c.prefixes.ensures.bytes c.args.nodes.now nodes rest left c.in_ok-atom.ensures.reads n (omega (arith, few, c.prefixes.ensures.left))) refl)
-    refl
+    let rest = c.loop-op.cursor.rest.now in
+    let left = c.atom.new.cursor.rest.now in
+    let inv = c.loop-op.invariant in
+    operand_adds bytes inner c.args.cursor.now.rest.now rest c.loop-op.ops.items (inv.reads inner) (ap (λ b. is_prefix (class_at b rest)) (sym inv.same_bytes) ∙ ap is_prefix (sym c.class.ensures) ∙ other_than_prefix c.class.result c.in_default.not-Prefix) c.args.nodes.now c.atom.new.nodes c.loop-op-2.nodes left
+    (nodes_at (λ b inner. atom_at b inner) c.loop-op.cursor.bytes.now bytes inv.same_bytes c.args.nodes.now c.atom.new.nodes rest left c.in_ok-atom.ensures.reads n (omega (arith, few, inv.fewer)))
+    (applied c.loop-op-2.nodes _ c.loop-op-2.ops.items (search rules) c.loop-op-2.invariant)
 
 -- ---- atoms
 

@@ -1,5 +1,8 @@
-use Rattle.std.proofs.Common.{ℕ, ◌≡◌, ◌<◌, ◌≤◌, ◌+◌, ◌-◌, ◌*◌, length}
-use Rattle.jm_ptltl.proofs.ReaderLemmas.{JoinsLeft, ChainLeft}
+use Rattle.std.proofs.Common.{ℕ, ◌≡◌, ◌<◌, ◌≤◌, ◌+◌, ◌-◌, ◌*◌, ◌++◌, List, Option, length, vec_len}
+use Rattle.jm_text.specs.declared.token.Token.{Token}
+use Rattle.jm_ptltl.specs.Rules.{Read, operand_at}
+use Rattle.jm_ptltl.proofs.NodeLemmas.{behind_all, closing}
+use Rattle.jm_ptltl.proofs.ReaderLemmas.{over_all, JoinsLeft, ChainLeft}
 use Rattle.jm_ptltl.proofs.parse.+formula.Given as goal
 
 -- Each call either takes a token or goes down the list of the rules.
@@ -15,9 +18,6 @@ decreases-join l = 32 * length l.cursor.now.rest.now + 30
 
 abbrev pub decreases-implications : goal.decreases-implications
 decreases-implications l = 32 * length l.cursor.now.rest.now + 22
-
-abbrev pub decreases-imply : goal.decreases-imply
-decreases-imply l = 32 * length l.cursor.now.rest.now + 30
 
 abbrev pub decreases-operand : goal.decreases-operand
 decreases-operand l = 32 * length l.cursor.now.rest.now + 2
@@ -47,3 +47,25 @@ invariant-implications-loop-cursor l = record {
 
 abbrev pub decreases-implications-loop-cursor : goal.decreases-implications-loop-cursor
 decreases-implications-loop-cursor l = length l.cursor.rest.now
+
+abbrev pub invariant-implications-loop-start : goal.invariant-implications-loop-start
+invariant-implications-loop-start l = l.nodes ++ closing l.starts.items (length l.nodes) ≡ l.initial.nodes ++ closing l.initial.starts.items (length l.initial.nodes)
+
+abbrev pub decreases-implications-loop-start : goal.decreases-implications-loop-start
+decreases-implications-loop-start l = vec_len l.starts
+
+abbrev pub invariant-operand-loop-op : goal.invariant-operand-loop-op
+invariant-operand-loop-op l = record {
+  same_bytes : l.cursor.bytes.now ≡ l.fn.cursor.bytes.now;
+  fewer : length l.cursor.rest.now ≤ length l.fn.cursor.rest.now;
+  reads : (inner : List Token → Option Read) → operand_at l.fn.cursor.bytes.now inner l.fn.cursor.rest.now ≡ over_all l.ops.items (operand_at l.fn.cursor.bytes.now inner l.cursor.rest.now);
+}
+
+abbrev pub decreases-operand-loop-op : goal.decreases-operand-loop-op
+decreases-operand-loop-op l = length l.cursor.rest.now
+
+abbrev pub invariant-operand-loop-op-2 : goal.invariant-operand-loop-op-2
+invariant-operand-loop-op-2 l = l.nodes ++ behind_all l.ops.items ≡ l.initial.nodes ++ behind_all l.initial.ops.items
+
+abbrev pub decreases-operand-loop-op-2 : goal.decreases-operand-loop-op-2
+decreases-operand-loop-op-2 l = vec_len l.ops

@@ -31,29 +31,23 @@ returns-in_err-said-clause-checked c = λ f e.
     let said = subst (λ (l : List (Node Token)). Answers {Y = List (Node Letter)} (Err error) (with_each (with_node bytes events) [] l)) e c.in_err-said.ensures in
     rw (p.1, p.2) (name_refused bytes c.args.table.now f error (few_nodes c.args.nodes.now f e c.if-nodes-gt-MAX_SUBFORMULAS.false) c.in_ok-check_event_names.ensures.checked (said_refused bytes events f error said))
 
-pub new-requires-clause-formula : goal.new-requires-clause-formula
-new-requires-clause-formula c =
+pub invariant_of-result : goal.invariant_of-result
+invariant_of-result c =
     let bytes = c.args.bytes.now in
     let events = event_names c.args.table.now in
     let f = c.requires.0 in
     let said = said_formula bytes events f c.in_ok-said.said (sym (ap (λ (l : List (Node Token)). with_each (with_node bytes events) [] l) c.requires.1) ∙ c.in_ok-said.ensures) in
-    well_formed c.into_vec.result.items said.0 (c.into_vec.ensures ∙ said.2)
-
-pub new-requires-clause-bounded : goal.new-requires-clause-bounded
-new-requires-clause-bounded c =
-    let bytes = c.args.bytes.now in
-    let events = event_names c.args.table.now in
-    let f = c.requires.0 in
-    let said = said_formula bytes events f c.in_ok-said.said (sym (ap (λ (l : List (Node Token)). with_each (with_node bytes events) [] l) c.requires.1) ∙ c.in_ok-said.ensures) in
-    let size = same_size bytes events f said.0 said.1 in
-    omega (arith, ap (λ (l : List (Node Letter)). length l) (c.into_vec.ensures ∙ said.2), size, few_nodes c.args.nodes.now f c.requires.1 c.if-nodes-gt-MAX_SUBFORMULAS.false)
+    let size = same_size bytes events f said.0 said.1 in (
+      well_formed c.into_vec.result.items said.0 (c.into_vec.ensures ∙ said.2),
+      omega (arith, ap (λ (l : List (Node Letter)). length l) (c.into_vec.ensures ∙ said.2), size, few_nodes c.args.nodes.now f c.requires.1 c.if-nodes-gt-MAX_SUBFORMULAS.false),
+    )
 
 pub returns-clause-said : goal.returns-clause-said
 returns-clause-said c = λ f e.
     let bytes = c.args.bytes.now in
     let events = event_names c.args.table.now in
     let said = said_formula bytes events f c.in_ok-said.said (sym (ap (λ (l : List (Node Token)). with_each (with_node bytes events) [] l) e) ∙ c.in_ok-said.ensures) in
-    let same : c.new.result ≡ said.0 = c.new.ensures ∙ ap (λ (l : List (Node Letter)). formula_of l) (c.into_vec.ensures ∙ said.2) ∙ formula_of-postfix said.0 in
+    let same : formula_of c.into_vec.result.items ≡ said.0 = ap (λ (l : List (Node Letter)). formula_of l) (c.into_vec.ensures ∙ said.2) ∙ formula_of-postfix said.0 in
     said.1 ∙ ap (λ (x : Formula Letter). Ok x) (sym same)
 
 pub returns-clause-checked : goal.returns-clause-checked

@@ -23,11 +23,6 @@ module _ {D : Type 0} (step : D → Result D SpecFault) (found : List D) (from d
     number_found : (after : List D) → Finds found (Ok target) (Ok after) → Finds found (step d) (Ok after)
     number_found after h = subst (λ (r : Result D SpecFault). Finds found r (Ok after)) (sym (ap step (sym same) ∙ leads)) h
 
-pub returns-in_err-node-clause-finds : goal.returns-in_err-node-clause-finds
-returns-in_err-node-clause-finds g c = λ d at.
-    let p = err_from_is_err_and c.from_residual.result c.from_residual.ensures.1 in
-    rw p.1 tt
-
 pub returns-in_err-node-clause-fault : goal.returns-in_err-node-clause-fault
 returns-in_err-node-clause-fault g c = λ d at.
     let p = err_from_is_err_and c.from_residual.result c.from_residual.ensures.1 in
@@ -35,27 +30,6 @@ returns-in_err-node-clause-fault g c = λ d at.
     let data_of = g.G.Graph.data_of c.args.graph.now in
     let same = map_place_is data_of nodes.items c.args.state c.index.result.now d (omega (arith, nodes.ok.0, c.requires.state)) c.index.ensures at in
     rw (p.1, p.2) (step_fails (λ x. (g.G.Graph.meaning c.args.graph.now).step x c.args.letter.0) (map data_of nodes.items) (data_of c.index.result.now) d same data_of c.in_err-node.field-0.0 c.in_err-node.ensures)
-
-pub returns-in_err-node-clause-target : goal.returns-in_err-node-clause-target
-returns-in_err-node-clause-target g c = λ d at.
-    let p = err_from_is_err_and c.from_residual.result c.from_residual.ensures.1 in
-    rw p.1 tt
-
-pub returns-in_err-node-clause-index : goal.returns-in_err-node-clause-index
-returns-in_err-node-clause-index g c =
-    let p = err_from_is_err_and c.from_residual.result c.from_residual.ensures.1 in
-    rw p.1 tt
-
-pub number-requires-clause-bounded : goal.number-requires-clause-bounded
-number-requires-clause-bounded g c = c.requires.bounded
-
-pub number-requires-clause-index : goal.number-requires-clause-index
-number-requires-clause-index g c = c.requires.index
-
-pub returns-in_err-target-clause-finds : goal.returns-in_err-target-clause-finds
-returns-in_err-target-clause-finds g c = λ d at.
-    let p = err_from_is_err_and c.from_residual-in_err-target.result c.from_residual-in_err-target.ensures.1 in
-    rw p.1 tt
 
 pub returns-in_err-target-clause-fault : goal.returns-in_err-target-clause-fault
 returns-in_err-target-clause-fault g c = λ d at.
@@ -65,45 +39,12 @@ returns-in_err-target-clause-fault g c = λ d at.
     let same = map_place_is data_of nodes.items c.args.state c.index.result.now d (omega (arith, nodes.ok.0, c.requires.state)) c.index.ensures at in
     rw (p.1, p.2) (number_fails (λ x. (g.G.Graph.meaning c.args.graph.now).step x c.args.letter.0) (map data_of nodes.items) (data_of c.index.result.now) d same (data_of c.in_ok-node.node) c.in_ok-node.ensures c.in_err-target.field-0.0 c.in_err-target.ensures.fault)
 
-pub returns-in_err-target-clause-target : goal.returns-in_err-target-clause-target
-returns-in_err-target-clause-target g c = λ d at.
-    let p = err_from_is_err_and c.from_residual-in_err-target.result c.from_residual-in_err-target.ensures.1 in
-    rw p.1 tt
-
-pub returns-in_err-target-clause-index : goal.returns-in_err-target-clause-index
-returns-in_err-target-clause-index g c =
-    let p = err_from_is_err_and c.from_residual-in_err-target.result c.from_residual-in_err-target.ensures.1 in
-    rw p.1 tt
-
-pub returns-in_err-push-clause-finds : goal.returns-in_err-push-clause-finds
-returns-in_err-push-clause-finds g c = λ d at.
-    let p = err_from_is_err_and c.from_residual-in_err-push.result c.from_residual-in_err-push.ensures.1 in
-    rw p.1 tt
-
-pub returns-in_err-push-clause-fault : goal.returns-in_err-push-clause-fault
-returns-in_err-push-clause-fault g c = λ d at.
-    let p = err_from_is_err_and c.from_residual-in_err-push.result c.from_residual-in_err-push.ensures.1 in
-    rw (p.1, p.2) tt
-
-pub returns-in_err-push-clause-target : goal.returns-in_err-push-clause-target
-returns-in_err-push-clause-target g c = λ d at.
-    let p = err_from_is_err_and c.from_residual-in_err-push.result c.from_residual-in_err-push.ensures.1 in
-    rw p.1 tt
-
-pub returns-in_err-push-clause-index : goal.returns-in_err-push-clause-index
-returns-in_err-push-clause-index g c =
-    let p = err_from_is_err_and c.from_residual-in_err-push.result c.from_residual-in_err-push.ensures.1 in
-    rw p.1 tt
-
 pub returns-clause-finds : goal.returns-clause-finds
 returns-clause-finds g c = λ d at.
     let nodes = c.args.work.now.nodes in
     let data_of = g.G.Graph.data_of c.args.graph.now in
     let same = map_place_is data_of nodes.items c.args.state c.index.result.now d (omega (arith, nodes.ok.0, c.requires.state)) c.index.ensures at in
     number_found (λ x. (g.G.Graph.meaning c.args.graph.now).step x c.args.letter.0) (map data_of nodes.items) (data_of c.index.result.now) d same (data_of c.in_ok-node.node) c.in_ok-node.ensures (map data_of c.number.new.work.nodes.items) c.in_ok-target.ensures.finds
-
-pub returns-clause-fault : goal.returns-clause-fault
-returns-clause-fault g c = λ d at. tt
 
 pub returns-clause-target : goal.returns-clause-target
 returns-clause-target g c = λ d at.
@@ -116,6 +57,3 @@ returns-clause-target g c = λ d at.
       c.in_ok-target.ensures.at_key,
       c.in_ok-push.ensures.items ∙ ap (λ v. v.items ++ c.in_ok-target.target ∷ []) c.number.ensures.next,
     )
-
-pub returns-clause-index : goal.returns-clause-index
-returns-clause-index g c = c.in_ok-target.ensures.index

@@ -3,4 +3,4 @@ use Rattle.jm_reading.proofs.cursor.Cursor.name.Goals as goal
 
 pub returns-clause-reads : goal.returns-clause-reads
 returns-clause-reads c =
-    rw (accepted_name c.args.self.now.bytes.now c.args.self.now.rest.now _ c.is_name_at-is_wanted.ensures) c.accept.ensures.reads
+    rw (accepted_name c.args.self.now.bytes.now c.args.self.now.rest.now _ c.is_name_at.ensures) c.accept.ensures.reads

@@ -1,7 +1,20 @@
-use Rattle.std.proofs.Common.{◌<◌, length, ◌∙◌, arith}
+use Rattle.std.proofs.Common.{◌<◌, ◌∷◌, [], length, refl, ap, ◌∙◌, arith}
+use Rattle.std.proofs.lemmas.List.{length-append}
+use Rattle.jm_table.proofs.ClassLemmas.{values_more}
 use Rattle.std.proofs.Math.ListN.{length-set}
 use Rattle.jm_table.proofs.NumberLemmas.{seen_more, numbered}
 use Rattle.jm_table.proofs.partition.Partition.split.Goals as goal
+
+pub loop-number-preserved : goal.loop-number-preserved
+loop-number-preserved c =
+    let before = c.loop-number.invariant in
+    let numbers = c.loop-number.numbers.items in
+    let number = c.loop-number.number in
+    let items = c.in_ok-push.ensures.items in
+    record {
+      count = ap length items ∙ omega (arith, before.count, length-append numbers (number ∷ []));
+      each = rw items (values_more numbers number number (λ k. k) before.count before.each refl);
+    }
 
 pub loop-state-preserved : goal.loop-state-preserved
 loop-state-preserved c =

@@ -12,3 +12,9 @@ invariant-loop-state l = record {
   numbers : length l.numbers.items ≡ 2 * length l.fn.self.firsts.items;
   count : length l.self.classes.items ≡ length l.keys;
 }
+
+abbrev pub invariant-loop-number : goal.invariant-loop-number
+invariant-loop-number l = record {
+  count : length l.numbers.items ≡ l.number;
+  each : (k : ℕ) → k < l.number → get_or l.numbers.items k 0 ≡ k;
+}

@@ -1,6 +1,6 @@
 use Rattle.std.proofs.Common.{ℕ, ◌≡◌, ◌<◌, length, get_or}
 use Rattle.jm_table.specs.Partitions.{IsKeyOf}
-use Rattle.jm_table.proofs.refinement.keys_of.Given as goal
+use Rattle.jm_table.proofs.refinement.split_by.Given as goal
 
 abbrev pub invariant-loop-state : goal.invariant-loop-state
 invariant-loop-state l = record {

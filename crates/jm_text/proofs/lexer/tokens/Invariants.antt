@@ -1,6 +1,6 @@
 use Rattle.std.proofs.Common.{◌-◌, length}
 use Rattle.jm_text.proofs.Cutting.{TokensBefore}
-use Rattle.jm_text.proofs.lexer.cut.Given as goal
+use Rattle.jm_text.proofs.lexer.tokens.Given as goal
 
 abbrev pub invariant-loop-start : goal.invariant-loop-start
 invariant-loop-start l = TokensBefore l.bytes l.tokens.items l.start l.line
