@@ -11,3 +11,4 @@ pub mod PieceLemmas
 pub mod PrintLemmas
 pub mod PlacedLemmas
 pub mod PlaceLemmas
+pub mod HeadLemmas

@@ -6,7 +6,6 @@ use Rattle.std.specs.List.{flat_map}
 use Rattle.std.proofs.lemmas.List.{take_more}
 use Rattle.std.proofs.lemmas.Option.{slice_get_within, get_or_from_slice_get, slice_get_cases, slice_get-map, slice_get_read}
 use Rattle.std.proofs.lemmas.Grind.{flat_map-append}
-use mathlib.Core.Bool.{true≢false}
 use Rattle.jm_print.specs.Lists.{later_names, name_list, is_empty, names_from, names_of_mask}
 use Rattle.jm_print.specs.Coenables.{family_line, family_lines}
 use Rattle.jm_print.proofs.PairLemmas.{flat_map-more}

@@ -32,3 +32,13 @@ fired_none l caller line [] none =
     ap (λ (t : List ℕ). codes " fired " ++ t ++ codes "\n") (sym (decimal_digit 0 (lit< tt)))
     ∙ sym (append-nil (codes " fired " ++ decimal 0 ++ codes "\n"))
 fired_none l caller line (f ∷ fs) none = absurd (omega (arith, none))
+
+-- and where one ran
+pub fired_one : (l : Lexicon) (caller line : ℕ) (firings : List Firing) (page written : List ℕ) → length firings ≡ 1 → written ≡ page ++ codes " fired 1\n"
+    → written ++ flat_map (run_text_at l caller line) firings
+    ≡ page ++ (codes " fired " ++ decimal (length firings) ++ codes "\n" ++ flat_map (run_text_at l caller line) firings)
+fired_one l caller line firings page written one head =
+    let own = flat_map (run_text_at l caller line) firings in
+    let number : decimal (length firings) ≡ codes "1" = ap decimal one ∙ decimal_digit 1 (lit< tt) in
+    ap (λ t. t ++ own) head ∙ append_assoc page (codes " fired 1\n") own
+    ∙ ap (λ (t : List ℕ). page ++ (codes " fired " ++ t ++ codes "\n" ++ own)) (sym number)

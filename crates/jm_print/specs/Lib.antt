@@ -1,6 +1,7 @@
 pub mod Lexicons
 pub mod Names
 pub mod Texts
+pub mod Shorts
 pub mod Summaries
 pub mod Told
 pub mod Unmarked

@@ -1,4 +1,4 @@
-ghost use Rattle.std.specs.Prelude.{◌≡◌, ◌<◌, ◌≤◌, ◌++◌, [], codes, decimal, length, map, take, All, Some, IfOk, OnOk, slice_get, count_ones, if◌then◌else◌};
+ghost use Rattle.std.specs.Prelude.{◌≡◌, ◌<◌, ◌≤◌, ◌++◌, [], codes, decimal, length, map, take, All, Some, IfOk, IfSome, OnOk, slice_get, count_ones, if◌then◌else◌};
 ghost use Rattle.std.specs.List.{flat_map};
 ghost use Rattle.jm_print.specs.Lexicons.{name_of, lexicon_of};
 ghost use Rattle.jm_handler.specs.Renderings.{occasion, handler_text};
@@ -7,9 +7,12 @@ ghost use Rattle.jm_model.specs.declared.step.Entry.{Entry};
 ghost use Rattle.jm_print.specs.Lexicons.{statements_of};
 ghost use Rattle.jm_print.specs.Texts.{pair_text, binding_text, firing_text, run_text_at, run_text, outcome_text};
 ghost use Rattle.jm_print.specs.Texts.{full_entry_text, history_text};
+ghost use Rattle.jm_print.specs.Shorts.{IsHeadText};
 ghost use Rattle.jm_print.specs.Texts.{HasNamesFrom, IsPrintableFiring, IsPrintableStep, IsPrintable};
 
+use crate::head::{Head, heads_of};
 use crate::page::Page;
+use crate::short::ShortText;
 use jm_events::{EventTable, Names};
 use jm_handler::Handler;
 use jm_history::{Entry, History, Lent, LentEvent, Piece};
@@ -30,14 +33,19 @@ struct Printer<'a> {
     categories: &'a Names,
     handlers: &'a [Handler],
     objects: &'a Names,
+    heads: &'a [Head],
 }
 
 impl<'a> Model for Printer<'a> {
     ghost use Rattle.jm_print.specs.Lexicons.{Lexicon, lexicon_of};
+    ghost use Rattle.jm_print.specs.Shorts.{AreHeads};
 
     ghost Value = { Lexicon };
 
     ghost view = { λ p. lexicon_of p.specification.now p.table.now p.categories.now p.objects.now p.handlers.now };
+
+    ghost invariant = { λ p. AreHeads
+        (lexicon_of p.specification.now p.table.now p.categories.now p.objects.now p.handlers.now) p.heads.now };
 }
 
 /// The text of a history: its specification, a line for each entry and for each handler that ran, with the lines that
@@ -57,12 +65,14 @@ pub fn render_history(
     ensures { IfOk result (λ text.
         text.items ≡ history_text (lexicon_of name.now table.now categories.now objects.now handlers.now) history.now) }
 {
+    let heads = heads_of(alloc, table)?;
     let printer = Printer {
         specification: name,
         table,
         categories,
         handlers,
         objects,
+        heads: heads.as_slice(),
     };
     let pieces = history.pieces(alloc)?;
     let mut page = Page::new(alloc);
@@ -98,6 +108,7 @@ pub fn render_entry(
         categories,
         handlers,
         objects,
+        heads: &[],
     };
     let mut page = Page::new(alloc);
     printer.entries(&mut page, &Piece::one(entry), 1)?;
@@ -200,14 +211,64 @@ impl Printer<'_> {
         ensures { OnOk result (page.new ≡ page.old ++ full_entry_text self.now (event_entry event.now)) }
     {
         page.place(event.caller, event.line)?;
-        page.text(self.table.event_name(event.letter))?;
-        page.byte(b' ')?;
-        self.pairs(page, event.mask, event.objects)?;
+        self.call(page, event.letter, event.mask, event.objects)?;
         match event.outcome {
             Outcome::Fired(firings) => self.fired(page, event.caller, event.line, firings),
             Outcome::Refused(object) => self.refused(page, *object),
             _ => unreachable!(),
         }
+    }
+
+    /// An event that binds the parameters of a mask to the first of these objects.
+    #[inline(always)]
+    fn call(
+        &self,
+        page: &mut Page,
+        letter: Letter,
+        mask: u8,
+        objects: &[u32],
+    ) -> Result<(), NoMemory>
+        requires letter { letter.0 < length self.now.events }
+        requires names { HasNamesFrom self.now 0 (placed mask objects.now) }
+        requires objects { count_ones mask ≤ length objects.now }
+        ensures { OnOk result (page.new ≡ page.old
+            ++ (name_of self.now.events letter.0 ++ codes " " ++ binding_text self.now (placed mask objects.now))) }
+    {
+        match self.head(letter, mask) {
+            Some(text) => page.short(text, self.objects.name(objects[0])),
+            None => self.long_call(page, letter, mask, objects),
+        }
+    }
+
+    /// The head of an event with this letter that binds the parameters of a mask, if one is kept.
+    #[inline(always)]
+    fn head(&self, letter: Letter, mask: u8) -> Option<&ShortText>
+        ensures { IfSome result (λ text. IsHeadText self.now letter.0 mask text.now) }
+    {
+        match self.heads.get(usize::from(letter.0)) {
+            Some(head) if mask != 0 && head.mask == mask => Some(&head.text),
+            _ => None,
+        }
+    }
+
+    /// An event that binds the parameters of a mask to the first of these objects, where no head is kept.
+    #[inline(never)]
+    fn long_call(
+        &self,
+        page: &mut Page,
+        letter: Letter,
+        mask: u8,
+        objects: &[u32],
+    ) -> Result<(), NoMemory>
+        requires letter { letter.0 < length self.now.events }
+        requires names { HasNamesFrom self.now 0 (placed mask objects.now) }
+        requires objects { count_ones mask ≤ length objects.now }
+        ensures { OnOk result (page.new ≡ page.old
+            ++ (name_of self.now.events letter.0 ++ codes " " ++ binding_text self.now (placed mask objects.now))) }
+    {
+        page.text(self.table.event_name(letter))?;
+        page.byte(b' ')?;
+        self.pairs(page, mask, objects)
     }
 
     /// The pairs of the parameters of a mask with the first of these objects, with commas between, or a dash.
@@ -311,6 +372,10 @@ impl Printer<'_> {
     {
         if firings.len() == 0 {
             return page.text(" fired 0\n");
+        }
+        if firings.len() == 1 {
+            page.text(" fired 1\n")?;
+            return self.firings(page, caller, line, firings);
         }
         page.text(" fired ")?;
         page.number(firings.len() as u64)?;

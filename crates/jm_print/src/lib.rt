@@ -7,10 +7,13 @@
 
 mod check;
 mod coenable;
+mod head;
 mod history;
 mod laws;
 mod lists;
 mod page;
+mod place;
+mod short;
 mod summary;
 
 pub use check::render_check;

@@ -1,18 +1,22 @@
 //! A text that grows.
 ghost use Rattle.std.specs.Prelude.{◌≡◌, ◌++◌, [], ◌∷◌, codes, decimal, length, vec_len, vec_capacity, OnOk, ◌+◌, ◌≤◌, if◌then◌else◌};
+ghost use Rattle.jm_print.specs.Shorts.{IsShort, short_text, place_text};
 ghost use Rattle.jm_handler.specs.Renderings.{AreNamed, occasion, handler_text};
 
-use itoa::{Buffer, write_digits};
+use crate::place::Place;
+use crate::short::{MOST, ShortText};
+use itoa::Buffer;
 use jm_events::Names;
 use jm_handler::Handler;
 use jm_model::{Binding, NoMemory};
 use std::alloc::Global;
 use std::marker::Model;
 
-/// The bytes that were written so far. Its memory grows geometrically.
+/// The bytes that were written so far, and the last caller and line. Its memory grows geometrically.
 #[derive(Drop)]
 pub(crate) struct Page {
     bytes: Vec<u8>,
+    place: Place,
 }
 
 impl Model for Page {
@@ -29,6 +33,7 @@ impl Page {
     {
         Page {
             bytes: Vec::new(alloc),
+            place: Place::new(0, 0),
         }
     }
 
@@ -68,6 +73,18 @@ impl Page {
         ensures { OnOk result (self.new ≡ self.old ++ byte ∷ []) }
     {
         Ok(self.bytes.push(byte)?)
+    }
+
+    /// Writes a short text and then a word.
+    #[inline(always)]
+    pub(crate) fn short(&mut self, short: &ShortText, word: &str) -> Result<(), NoMemory>
+        requires { IsShort short.now }
+        ensures { OnOk result (self.new ≡ self.old ++ (short_text short.now ++ word.now)) }
+    {
+        self.bytes.reserve(word.len().saturating_add(MOST))?;
+        short.put_onto(&mut self.bytes);
+        put_word(&mut self.bytes, word.as_bytes());
+        Ok(())
     }
 
     /// Writes a parameter with its object, after a comma where it isn't the first.
@@ -114,14 +131,12 @@ impl Page {
     /// Writes a caller and a line of its script, with what stands after each.
     #[inline(always)]
     pub(crate) fn place(&mut self, caller: u32, line: u32) -> Result<(), NoMemory>
-        ensures { OnOk result (self.new
-            ≡ self.old ++ (decimal caller ++ codes ":" ++ decimal line ++ codes " ")) }
+        ensures { OnOk result (self.new ≡ self.old ++ place_text caller line) }
     {
-        let mut buffer = [b' '; 32];
-        let behind = write_digits(u64::from(line), &mut buffer, 31) - 1;
-        buffer[behind] = b':';
-        let start = write_digits(u64::from(caller), &mut buffer, behind);
-        self.bytes(&buffer[start..])
+        self.place.move_to(caller, line);
+        self.bytes.reserve(MOST)?;
+        self.place.put_onto(&mut self.bytes);
+        Ok(())
     }
 
     /// Writes what a handler prints for an instance, at an event on this line of this caller.
@@ -143,7 +158,7 @@ impl Page {
     pub(crate) fn into_bytes(self) -> Vec<u8>
         ensures { result.items ≡ self }
     {
-        let Page { bytes } = self;
+        let Page { bytes, place: _ } = self;
         bytes
     }
 }
